@@ -18,10 +18,10 @@ use Rattle.cf_model.specs.Powers.{StandsNow}
 use Rattle.cf_model.specs.State.{Link, State, Volume, new_filter}
 use Rattle.cf_remote.specs.Told.{Told}
 use Rattle.cf_volume.specs.Calls.{Runs}
-use Rattle.cf_volume_points.specs.Standing.{clusters_on}
+use Rattle.cf_volume_points.specs.Standing.{clusters_for}
 
 module _ {D R : Type 0} (state : D → Disk) (told : R → Told) where
-  pub opened_on : (d : D) (x : Held D) (p : Syncing R) (l : Linked R) (link : Link) (past : Past) (policy : Policy) (v : Volume) → IsFitSize (size_of (state d)) → Runs (state d) (state x.disk) → v.clusters ≡ clusters_on (state d).seen
+  pub opened_on : (d : D) (x : Held D) (p : Syncing R) (l : Linked R) (link : Link) (past : Past) (policy : Policy) (v : Volume) → IsFitSize (size_of (state d)) → Runs (state d) (state x.disk) → v.clusters ≡ clusters_for (state d)
       → sensing.Stands state x (new_filter v policy) → p ≡ new_engine l → IsLink told l link → past.told ≡ (state d).powers → IsSyncing state told past (record { filter = x; actor = p }) (on_volume policy link v)
   opened_on d x p l link past policy v fit runs clusters stands is linked powers =
       let s : State = on_volume policy link v in
@@ -30,12 +30,12 @@ module _ {D R : Type 0} (state : D → Disk) (told : R → Told) where
       record {
         mode = refl;
         quiet = ap (λ (k : Desk). k.notes) stands.desk;
-        disk = record { fit = subst IsFitSize (sym runs.size) fit; clusters = clusters ∙ sym (same_clusters (state d) (state x.disk) runs.size); powers = runs.powers ∙ sym powers };
+        disk = record { fit = subst IsFitSize (sym runs.size) fit; clusters = clusters ∙ sym (same_clusters (state d) (state x.disk) runs.size runs.quota); powers = runs.powers ∙ sym powers };
         is = subst (λ (b : Bool). OnBy (acts_of told) state b (record { filter = x; actor = p }) s) (sym (ap (λ (k : Desk). k.broken) stands.desk)) on;
       }
 
   -- the same as the code comes to it
-  pub opened_by : (d : D) (x : Held D) (run : Run D (Syncing R)) (l : Linked R) (link : Link) (past : Past) (policy : Policy) (v : Volume) → IsFitSize (size_of (state d)) → Runs (state d) (state x.disk) → v.clusters ≡ clusters_on (state d).seen
+  pub opened_by : (d : D) (x : Held D) (run : Run D (Syncing R)) (l : Linked R) (link : Link) (past : Past) (policy : Policy) (v : Volume) → IsFitSize (size_of (state d)) → Runs (state d) (state x.disk) → v.clusters ≡ clusters_for (state d)
       → sensing.Stands state x (new_filter v policy) → run ≡ record { filter = x; actor = new_engine l } → IsLink told l link → past.told ≡ (state d).powers → IsSyncing state told past run (on_volume policy link v)
   opened_by d x run l link past policy v fit runs clusters stands is linked powers = subst (λ (r : Run D (Syncing R)). IsSyncing state told past r (on_volume policy link v)) (sym is)
       (opened_on d x (new_engine l) l link past policy v fit runs clusters stands refl linked powers)

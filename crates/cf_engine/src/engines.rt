@@ -26,7 +26,7 @@ ghost use Rattle.cf_model.specs.Numbers.{most};
 ghost use Rattle.cf_model.specs.State.{Link as link_model, State, new_volume};
 ghost use Rattle.cf_volume.specs.Calls.{IsCause, IsMemory, IsRefused, StopsOnly};
 ghost use Rattle.cf_volume_commit.specs.Loaded.{HoldsImage, StandsOrWas};
-ghost use Rattle.cf_volume_points.specs.Standing.{Standing, clusters_on, opened};
+ghost use Rattle.cf_volume_points.specs.Standing.{Standing, clusters_for, opened};
 
 use crate::actors::SyncActor;
 use crate::openings::fits_engine;
@@ -106,7 +106,7 @@ impl<D: Disk, R: Remote> SyncEngine<D, R> {
         link: Link<R>,
     ) -> Result<SyncEngine<D, R>, (D, Link<R>, CallError)>
         requires { IsFitSize (size_of (D.state disk)) }
-        ensures ok { (l : link_model) → IsLink R.told link l → IfOk result (λ e. (past : Past) → past.told ≡ (D.state disk).powers → IsSyncing D.state R.told past e (on_volume policy l (new_volume (clusters_on (D.state disk).seen)))) }
+        ensures ok { (l : link_model) → IsLink R.told link l → IfOk result (λ e. (past : Past) → past.told ≡ (D.state disk).powers → IsSyncing D.state R.told past e (on_volume policy l (new_volume (clusters_for (D.state disk))))) }
         ensures back { IfErr result (λ e. e.1 ≡ link) }
         ensures only { IfErr result (λ e. StopsOnly e.2) }
         ensures cause { IfErr result (λ e. IsCause e.2 (D.state disk) (D.state e.0)) }
@@ -134,7 +134,7 @@ impl<D: Disk, R: Remote> SyncEngine<D, R> {
         link: Link<R>,
     ) -> Result<SyncEngine<D, R>, (D, Link<R>, CallError)>
         requires { IsFitSize (size_of (D.state disk)) }
-        ensures ok { (l : link_model) (epoch : ℕ) (log : List (Usn × Change)) (b : Book) → IsLink R.told link l → Standing epoch (D.state disk).seen log b → IsKeptVolume (opened (epoch + 1) log b 0) → IfOk result (λ e. (past : Past) → past.told ≡ (D.state disk).powers → IsSyncing D.state R.told past e (on_volume policy l (opened (epoch + 1) log b (clusters_on (D.state disk).seen)))) }
+        ensures ok { (l : link_model) (epoch : ℕ) (log : List (Usn × Change)) (b : Book) → IsLink R.told link l → Standing epoch (D.state disk).seen log b → IsKeptVolume (opened (epoch + 1) log b 0) → IfOk result (λ e. (past : Past) → past.told ≡ (D.state disk).powers → IsSyncing D.state R.told past e (on_volume policy l (opened (epoch + 1) log b (clusters_for (D.state disk))))) }
         ensures found { IfOk result (λ e. (i : Image) × HoldsImage (D.state disk).seen i × IsOfEngine i) }
         ensures absent { IfErr result (λ e. IsRefused e.2 NotAVolume → (i : Image) → HoldsImage (D.state disk).seen i → IsOfEngine i → ⊥) }
         ensures none { (epoch : ℕ) (log : List (Usn × Change)) (b : Book) (stands : Standing epoch (D.state disk).seen log b) → IsOfEngine stands.image → IfErr result (λ e. IsRefused e.2 NotAVolume → ⊥) }

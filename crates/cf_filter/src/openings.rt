@@ -20,6 +20,14 @@ fn arm_on<D: Disk>(machine: &mut Machine<D>, calls: u32)
     machine.volume.arm(calls);
 }
 
+fn aim_on<D: Disk>(machine: &mut Machine<D>, changes: u64)
+    ensures same { IsUnchanged (D.state machine.old.disk) (D.state machine.new.disk) }
+    ensures known { machine.new.known ≡ machine.old.known }
+    ensures desk { machine.new.desk ≡ machine.old.desk }
+{
+    machine.volume.aim(changes);
+}
+
 impl<D: Disk> Filter<D> {
     ghost use Rattle.std.specs.Prelude.{◌+◌, ◌<◌, ◌⊎◌, ℕ, List, IfErr, IfOk};
     ghost use Rattle.cf_base.specs.declared.changes.Change.{Change};
@@ -35,7 +43,7 @@ impl<D: Disk> Filter<D> {
     ghost use Rattle.cf_model.specs.Formats.{Image};
     ghost use Rattle.cf_model.specs.Numbers.{most};
     ghost use Rattle.cf_model.specs.State.{Filter as model, new_filter, new_volume};
-    ghost use Rattle.cf_volume_points.specs.Standing.{Standing, clusters_on, opened};
+    ghost use Rattle.cf_volume_points.specs.Standing.{Standing, clusters_for, opened};
     ghost use Rattle.cf_volume.specs.Calls.{IsCause, IsRefused, Runs, StopsOnly};
     ghost use Rattle.cf_volume.specs.Openings.{IsOpenedFrom};
 
@@ -53,7 +61,7 @@ impl<D: Disk> Filter<D> {
     /// connected. Device where a call of the disk failed, OutOfMemory where there is none; then the disk comes back.
     pub fn format(alloc: Global, disk: D, policy: Policy) -> Result<Filter<D>, (D, CallError)>
         requires { IsFitSize (size_of (D.state disk)) }
-        ensures ok { IfOk result (λ f. Stands D.state f (new_filter (new_volume (clusters_on (D.state disk).seen)) policy)) }
+        ensures ok { IfOk result (λ f. Stands D.state f (new_filter (new_volume (clusters_for (D.state disk))) policy)) }
         ensures only { IfErr result (λ e. StopsOnly e.1) }
         ensures cause { IfErr result (λ e. IsCause e.1 (D.state disk) (D.state e.0)) }
         ensures runs { IfOk result (λ f. Runs (D.state disk) (D.state f.disk)) }
@@ -74,7 +82,7 @@ impl<D: Disk> Filter<D> {
     /// or raised.
     pub fn open(alloc: Global, disk: D, policy: Policy) -> Result<Filter<D>, (D, CallError)>
         requires { IsFitSize (size_of (D.state disk)) }
-        ensures ok { (epoch : ℕ) (log : List (Usn × Change)) (b : Book) → Standing epoch (D.state disk).seen log b → IsKeptVolume (opened (epoch + 1) log b 0) → IfOk result (λ f. Stands D.state f (new_filter (opened (epoch + 1) log b (clusters_on (D.state disk).seen)) policy)) }
+        ensures ok { (epoch : ℕ) (log : List (Usn × Change)) (b : Book) → Standing epoch (D.state disk).seen log b → IsKeptVolume (opened (epoch + 1) log b 0) → IfOk result (λ f. Stands D.state f (new_filter (opened (epoch + 1) log b (clusters_for (D.state disk))) policy)) }
         ensures found { IfOk result (λ f. (i : Image) × HoldsImage (D.state disk).seen i × (i.header.last.epoch < most) × IsOpenedFrom i f.known) }
         ensures absent { IfErr result (λ e. IsRefused e.1 NotAVolume → (i : Image) → HoldsImage (D.state disk).seen i → ⊥) }
         ensures exhausted { IfErr result (λ e. IsRefused e.1 Exhausted → (i : Image) × HoldsImage (D.state disk).seen i × (i.header.last.epoch ≡ most)) }
@@ -112,5 +120,16 @@ impl<D: Disk> Filter<D> {
         ensures desk { self.new.desk ≡ self.old.desk }
     {
         arm_on(&mut self.machine, calls);
+    }
+
+    /// Tells the disk that a commit is wanted once so many changes are made. A hint: nothing is promised of it, and the filter stands for
+    /// what it stood for.
+    pub fn aim(&mut self, changes: u64)
+        ensures stands { (s : model) → Stands D.state self.old s → Stands D.state self.new s }
+        ensures same { IsUnchanged (D.state self.old.disk) (D.state self.new.disk) }
+        ensures known { self.new.known ≡ self.old.known }
+        ensures desk { self.new.desk ≡ self.old.desk }
+    {
+        aim_on(&mut self.machine, changes);
     }
 }

@@ -1,6 +1,6 @@
 -- The filter between two events, whose notes are told.
 use Rattle.std.proofs.Common.{◌≡◌, ℕ, List, [], refl, sym, ap, subst, ◌∙◌}
-use Rattle.std.specs.Prelude.{◌-◌, ◌/◌}
+use Rattle.std.specs.Prelude.{◌-◌, ◌/◌, min}
 use Rattle.cf_filter_events.specs.Actors.{hushed}
 use Rattle.cf_filter_events.specs.Meaning.{IsDiskOf}
 use Rattle.cf_filter_events.specs.Pasts.{Past}
@@ -13,7 +13,7 @@ use Rattle.cf_filter_machine.specs.Lasting.{Lasts, Moved}
 use Rattle.cf_filter_machine.specs.Sensing.{Stands, Stopped}
 use Rattle.cf_filter_machine.specs.Showing.{Shows}
 use Rattle.cf_model.specs.State.{Filter, Volume}
-use Rattle.cf_volume_points.specs.Standing.{clusters_on}
+use Rattle.cf_volume_points.specs.Standing.{clusters_for}
 use Rattle.cf_filter_steps.specs.Good.{IsGood}
 
 module _ {D : Type 0} (state : D → Disk) where
@@ -68,13 +68,13 @@ module _ {D : Type 0} (state : D → Disk) where
   pub stands_noted : (x : Held D) (f : Filter) → x.desk.notes ≡ [] → Stands state x f → Stands state (noted [] x) f
   stands_noted x f quiet h = subst (λ (z : Held D). Stands state z f) (sym (noted_none x quiet)) h
 
-pub same_clusters : (d e : Disk) → size_of e ≡ size_of d → clusters_on e.seen ≡ clusters_on d.seen
-same_clusters d e same = ap (λ (n : ℕ). (n - 3145728) / 4096) same
+pub same_clusters : (d e : Disk) → size_of e ≡ size_of d → e.quota ≡ d.quota → clusters_for e ≡ clusters_for d
+same_clusters d e same quota = λ i. min (quota i) ((same i - 3145728) / 4096)
 
 -- a call leaves the size and the power cuts of the disk, and the clusters of the volume
 pub disk_moved : (past : Past) (d e : Disk) (v w : Volume) → IsDiskOf past d v → Moved d e v w → IsDiskOf past e w
 disk_moved past d e v w h m = record {
   fit = subst IsFitSize (sym m.runs.size) h.fit;
-  clusters = m.grows.clusters ∙ h.clusters ∙ sym (same_clusters d e m.runs.size);
+  clusters = m.grows.clusters ∙ h.clusters ∙ sym (same_clusters d e m.runs.size m.runs.quota);
   powers = m.runs.powers ∙ h.powers;
 }

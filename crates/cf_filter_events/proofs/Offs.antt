@@ -31,14 +31,14 @@ use Rattle.cf_model.specs.State.{Filter, Off, State}
 
 module _ {D A : Type 0} (acts : Acts A) (state : D → Disk) where
   -- whatever a crash leaves of the one disk it left of the other
-  pub still_off : (past : Past) (x y : Cut D A) (s t : State) → y.policy ≡ x.policy → size_of (state y.disk) ≡ size_of (state x.disk) → (state y.disk).powers ≡ (state x.disk).powers → ((c : List ℕ) → (state y.disk).may_leave c → (state x.disk).may_leave c)
+  pub still_off : (past : Past) (x y : Cut D A) (s t : State) → y.policy ≡ x.policy → size_of (state y.disk) ≡ size_of (state x.disk) → (state y.disk).quota ≡ (state x.disk).quota → (state y.disk).powers ≡ (state x.disk).powers → ((c : List ℕ) → (state y.disk).may_leave c → (state x.disk).may_leave c)
       → t.mode ≡ s.mode → t.power ≡ Off → acts.holds y.actor t → t.failed_opens ≡ s.failed_opens → t.filter.volume ≡ s.filter.volume → t.filter.policy ≡ s.filter.policy → IsOff acts state past x s → IsOff acts state past y t
-  still_off past x y s t policy size powers leaves mode power holds opens volume same off = record {
+  still_off past x y s t policy size quota powers leaves mode power holds opens volume same off = record {
     mode = mode ∙ off.mode;
     power = power;
     holds = holds;
     policy = policy ∙ off.policy ∙ sym same;
-    disk = subst (λ (v : _). IsDiskOf past (state y.disk) v) (sym volume) (disk_again past (state x.disk) (state y.disk) s.filter.volume size powers off.disk);
+    disk = subst (λ (v : _). IsDiskOf past (state y.disk) v) (sym volume) (disk_again past (state x.disk) (state y.disk) s.filter.volume size quota powers off.disk);
     point = off.point;
     opens = rw volume off.opens;
     kept = rw volume off.kept;
@@ -55,10 +55,11 @@ module _ {D A : Type 0} (acts : Acts A) (state : D → Disk) where
   off_left : (past : Past) (x y : Cut D A) (s t : State) → y.policy ≡ x.policy → y.disk ≡ x.disk → LeavesFilter s t → acts.holds y.actor t → IsOff acts state past x s → IsOff acts state past y t
   off_left past x y s t policy disk leaves holds off =
       let size : size_of (state y.disk) ≡ size_of (state x.disk) = ap (λ (d : D). size_of (state d)) disk in
+      let quota : (state y.disk).quota ≡ (state x.disk).quota = ap (λ (d : D). (state d).quota) disk in
       let powers : (state y.disk).powers ≡ (state x.disk).powers = ap (λ (d : D). (state d).powers) disk in
       let volume : t.filter.volume ≡ s.filter.volume = ap (λ (f : Filter). f.volume) leaves.filter in
       let same : t.filter.policy ≡ s.filter.policy = ap (λ (f : Filter). f.policy) leaves.filter in
-      still_off past x y s t policy size powers (λ c may. subst (λ (d : D). (state d).may_leave c) disk may) leaves.mode (leaves.power ∙ off.power) holds leaves.opens volume same off
+      still_off past x y s t policy size quota powers (λ c may. subst (λ (d : D). (state d).may_leave c) disk may) leaves.mode (leaves.power ∙ off.power) holds leaves.opens volume same off
 
   off_stepped : (past : Past) (e : Event) (x y : Cut D A) (s : State) (r : Result Answer NoMemory) → y.policy ≡ x.policy → y.disk ≡ x.disk → IsOff acts state past x s → LeavesTo acts.mode acts.holds e s r y.actor → SteppedTo acts.mode (IsOff acts state past) e s r y
   off_stepped past e x y s (Ok a) policy disk off h = (h.0, h.1, off_left past x y s h.0 policy disk h.2 h.3 off)
@@ -81,9 +82,14 @@ module _ {D A : Type 0} (answers : Answering A) (acts : Acts A) (actor : IsActor
     leads = λ past s off. (
       begun s,
       ended_step acts.mode s (event.Device (device.Stop n)) shown.Done (begun s) (device_of acts.mode (device.Stop n)) refl (refl, refl),
-      still_off acts state past x y s (begun s) policy (ap length same.seen) same.powers same.crash refl off.power (held_on x y s (begun s) kept refl refl off.holds) refl refl refl off,
+      still_off acts state past x y s (begun s) policy (ap length same.seen) same.quota same.powers same.crash refl off.power (held_on x y s (begun s) kept refl refl off.holds) refl refl refl off,
     );
   }
+
+  -- a disk that is the same to every reader
+  pub aimed_off : (past : Past) (s : State) (x y : Cut D A) → y.policy ≡ x.policy → y.actor ≡ x.actor → IsUnchanged (state x.disk) (state y.disk) → IsOff acts state past x s → IsOff acts state past y s
+  aimed_off past s x y policy kept same off =
+      still_off acts state past x y s s policy (ap length same.seen) same.quota same.powers same.crash refl off.power (held_on x y s s kept refl refl off.holds) refl refl refl off
 
   -- one more power cut leaves the point
   off_again : (past : Past) (choice : Choice) (x y : Cut D A) (s : State) → y.policy ≡ x.policy → y.actor ≡ x.actor → (state x.disk).may_leave (state y.disk).seen → Only (state y.disk).seen (state y.disk) → Powers choice (state x.disk) (state y.disk)

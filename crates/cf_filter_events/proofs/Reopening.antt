@@ -47,7 +47,7 @@ use Rattle.cf_model.specs.State.{Filter, Off, Point, Power, State, Volume, new_f
 use Rattle.cf_model.specs.Trees.{Ends, Stops}
 use Rattle.cf_model.specs.Arrows.{Arrow}
 use Rattle.cf_model.specs.Words.{counting}
-use Rattle.cf_volume_points.specs.Standing.{Standing, clusters_on, opened}
+use Rattle.cf_volume_points.specs.Standing.{Standing, clusters_for, opened}
 use Rattle.cf_volume.specs.Calls.{IsRefused, Runs, StopsOnly}
 
 not_less : (a b : ℕ) → b ≤ a → nat_lt a b ≡ false
@@ -149,7 +149,7 @@ module _ {D A : Type 0} (answers : Answering A) (acts : Acts A) (actor : IsActor
 
   -- what a restart that resumed leaves
   pub resumed_to : (past : Past) (x : Cut D A) (y : Held D) (q : A) (s : State) (a : Answer) (off : IsOff acts state past x s) (k : ℕ) → k ≤ s.failed_opens → s.filter.volume.epoch + k < most → Runs (state x.disk) (state y.disk) → Reopens acts x.actor q
-      → Stands state y (new_filter (opened (s.filter.volume.epoch + k + 1) (take off.point.count s.filter.volume.log) off.point.book (clusters_on (state x.disk).seen)) x.policy)
+      → Stands state y (new_filter (opened (s.filter.volume.epoch + k + 1) (take off.point.count s.filter.volume.log) off.point.book (clusters_for (state x.disk))) x.policy)
       → ((f : Filter) → Stands state y f → a ≡ answer_with (shown.Resumed (length f.volume.log) (opened_of f.volume.book)) [])
       → PoweredTo acts.mode (IsOn acts state) past (event.Device device.Restart) s (Ok a) (record { filter = y; actor = q })
   resumed_to past x y q s a off k few low runs opens stands told =
@@ -157,8 +157,8 @@ module _ {D A : Type 0} (answers : Answering A) (acts : Acts A) (actor : IsActor
       let v = s.filter.volume in
       let epoch : ℕ = v.epoch + 1 + k in
       let t : State = with_opened p epoch (begun s) in
-      let same : new_filter (opened (v.epoch + k + 1) (take p.count v.log) p.book (clusters_on (state x.disk).seen)) x.policy ≡ t.filter =
-      ap (λ (w : Volume). new_filter w x.policy) (opened_is p k (clusters_on (state x.disk).seen) v off.kept.early (sym off.disk.clusters)) ∙ ap (λ (q : Policy). new_filter (opened_at p epoch v) q) off.policy in
+      let same : new_filter (opened (v.epoch + k + 1) (take p.count v.log) p.book (clusters_for (state x.disk))) x.policy ≡ t.filter =
+      ap (λ (w : Volume). new_filter w x.policy) (opened_is p k (clusters_for (state x.disk)) v off.kept.early (sym off.disk.clusters)) ∙ ap (λ (q : Policy). new_filter (opened_at p epoch v) q) off.policy in
       let here : Stands state y t.filter = subst (λ (f : Filter). Stands state y f) same stands in
       let count : length (take p.count v.log) ≡ p.count = length-take p.count v.log ∙ (let m : min p.count (length v.log) ≡ p.count = omega (arith, off.kept.early) in m) in
       let answer : answer_with (resumed p) [] ≡ a = sym (told t.filter here ∙ ap (λ (n : ℕ). answer_with (shown.Resumed n (opened_of p.book)) []) count) in
@@ -173,8 +173,8 @@ module _ {D A : Type 0} (answers : Answering A) (acts : Acts A) (actor : IsActor
           mode = off.mode;
           quiet = ap (λ (d : Desk). d.notes) here.desk;
           disk = record {
-            fit = (disk_again past (state x.disk) (state y.disk) v runs.size runs.powers off.disk).fit;
-            clusters = (disk_again past (state x.disk) (state y.disk) v runs.size runs.powers off.disk).clusters;
+            fit = (disk_again past (state x.disk) (state y.disk) v runs.size runs.quota runs.powers off.disk).fit;
+            clusters = (disk_again past (state x.disk) (state y.disk) v runs.size runs.quota runs.powers off.disk).clusters;
             powers = runs.powers ∙ off.disk.powers;
           };
           is = subst (λ (b : Bool). OnBy acts state b (record { filter = y; actor = q }) t) (sym (ap (λ (d : Desk). d.broken) here.desk)) on;
@@ -199,8 +199,8 @@ module _ {D A : Type 0} (answers : Answering A) (acts : Acts A) (actor : IsActor
           holds = held_on answers acts actor state x y s t kept refl refl off.holds;
           policy = policy ∙ off.policy;
           disk = record {
-            fit = (disk_again past (state x.disk) (state y.disk) s.filter.volume runs.size runs.powers off.disk).fit;
-            clusters = (disk_again past (state x.disk) (state y.disk) s.filter.volume runs.size runs.powers off.disk).clusters;
+            fit = (disk_again past (state x.disk) (state y.disk) s.filter.volume runs.size runs.quota runs.powers off.disk).fit;
+            clusters = (disk_again past (state x.disk) (state y.disk) s.filter.volume runs.size runs.quota runs.powers off.disk).clusters;
             powers = runs.powers ∙ off.disk.powers;
           };
           point = off.point;
@@ -233,7 +233,7 @@ module _ {D A : Type 0} (answers : Answering A) (acts : Acts A) (actor : IsActor
 
   -- a restart that opened the volume
   pub opened_step : (x : Cut D A) (y : Held D) (back : Acting D A) (r : Result Answer NoMemory) → (state x.disk).may_leave (state x.disk).seen
-      → ((epoch : ℕ) (log : List (Usn × Change)) (b : Book) → Standing epoch (state x.disk).seen log b → IsKeptVolume (opened (epoch + 1) log b 0) → Stands state y (new_filter (opened (epoch + 1) log b (clusters_on (state x.disk).seen)) x.policy))
+      → ((epoch : ℕ) (log : List (Usn × Change)) (b : Book) → Standing epoch (state x.disk).seen log b → IsKeptVolume (opened (epoch + 1) log b 0) → Stands state y (new_filter (opened (epoch + 1) log b (clusters_for (state x.disk))) x.policy))
       → ((epoch : ℕ) (log : List (Usn × Change)) (b : Book) → Standing epoch (state x.disk).seen log b → epoch < most) → Runs (state x.disk) (state y.disk) → back ≡ acting.On (record { filter = y; actor = actor_of back }) → Reopens acts x.actor (actor_of back)
       → IfOk r (λ a. (f : Filter) → Stands state y f → a ≡ answer_with (shown.Resumed (length f.volume.log) (opened_of f.volume.book)) []) → StepsOver acts.mode (Is acts state) (event.Device device.Restart) (acting.Off x) r back
   opened_step x y back (Err m) reads ok more runs is opens told = record { leads = λ past s off. record {} }
@@ -268,7 +268,7 @@ module _ {D A : Type 0} (answers : Answering A) (acts : Acts A) (actor : IsActor
     leads = λ past s off.
         let at = found past x s off reads in
         let same = unwritten (inr spent) in
-        let after : IsOff acts state past y (begun s) = still_off acts state past x y s (begun s) policy runs.size runs.powers same.keeps.crash refl off.power (held_on answers acts actor state x y s (begun s) kept refl refl off.holds) refl refl refl off in
+        let after : IsOff acts state past y (begun s) = still_off acts state past x y s (begun s) policy runs.size runs.quota runs.powers same.keeps.crash refl off.power (held_on answers acts actor state x y s (begun s) kept refl refl off.holds) refl refl refl off in
         let r = exhausted_to past x y s off at.taken at.few (last (s.filter.volume.epoch + at.taken) (take off.point.count s.filter.volume.log) off.point.book at.stands spent) after in
         subst (λ (k : Code). PoweredTo acts.mode (Is acts state) past (event.Device device.Restart) s (Ok (answer_with (shown.Refused k) [])) (acting.Off y)) (sym spent) r;
   }

@@ -23,7 +23,7 @@ use Rattle.cf_filter_machine.specs.Sensing.{Stands, sense}
 use Rattle.cf_model.specs.Powers.{IsPower, StandsNow}
 use Rattle.cf_model.specs.State.{State, first_policy, new_filter, new_volume, start}
 use Rattle.cf_model.specs.Store.{Held as Store}
-use Rattle.cf_volume_points.specs.Standing.{clusters_on}
+use Rattle.cf_volume_points.specs.Standing.{clusters_for}
 use Rattle.cf_volume.specs.Calls.{Runs}
 
 -- an event that does no power cut, whatever it is answered
@@ -68,15 +68,15 @@ module _ {D A : Type 0} (acts : Acts A) (state : D → Disk) where
   lasting d s h c may = let at = h c may in (at.point, at.opens, (s.filter.volume.epoch, at.stands))
 
   -- a volume that was just made
-  pub begins : (d : D) (x : Held D) (p : A) (remote : Store) (past : Past) → past.told ≡ (state d).powers → IsFitSize (size_of (state d)) → Runs (state d) (state x.disk) → Stands state x (new_filter (new_volume (clusters_on (state d).seen)) first_policy)
-      → acts.stands p (start acts.mode remote (clusters_on (state d).seen)) → IsOn acts state past (record { filter = x; actor = p }) (start acts.mode remote (clusters_on (state d).seen))
+  pub begins : (d : D) (x : Held D) (p : A) (remote : Store) (past : Past) → past.told ≡ (state d).powers → IsFitSize (size_of (state d)) → Runs (state d) (state x.disk) → Stands state x (new_filter (new_volume (clusters_for (state d))) first_policy)
+      → acts.stands p (start acts.mode remote (clusters_for (state d))) → IsOn acts state past (record { filter = x; actor = p }) (start acts.mode remote (clusters_for (state d)))
   begins d x p remote past told fit runs stands begun =
-      let s : State = start acts.mode remote (clusters_on (state d).seen) in
+      let s : State = start acts.mode remote (clusters_for (state d)) in
       let on : OnBy acts state false (record { filter = x; actor = p }) s = (refl, begun, stands) in
       record {
         mode = refl;
         quiet = ap (λ (k : Desk). k.notes) stands.desk;
-        disk = record { fit = subst IsFitSize (sym runs.size) fit; clusters = sym (same_clusters (state d) (state x.disk) runs.size); powers = runs.powers ∙ sym told };
+        disk = record { fit = subst IsFitSize (sym runs.size) fit; clusters = sym (same_clusters (state d) (state x.disk) runs.size runs.quota); powers = runs.powers ∙ sym told };
         is = subst (λ (b : Bool). OnBy acts state b (record { filter = x; actor = p }) s) (sym (ap (λ (k : Desk). k.broken) stands.desk)) on;
       }
 

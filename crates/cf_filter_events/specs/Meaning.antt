@@ -15,12 +15,12 @@ use Rattle.cf_filter_machine.specs.Showing.{Shows}
 use Rattle.cf_model.specs.Points.{Opens}
 use Rattle.cf_model.specs.Events.{begun}
 use Rattle.cf_model.specs.State.{Broken, Off, On, Point, State, Volume}
-use Rattle.cf_volume_points.specs.Standing.{Standing, clusters_on}
+use Rattle.cf_volume_points.specs.Standing.{Standing, clusters_for}
 
--- the disk has a fit size and as many clusters as the volume, and tells these power cuts
+-- the disk has a fit size, lets a volume use as many clusters as this one may, and tells these power cuts
 pub record IsDiskOf (past : Past) (d : Disk) (v : Volume) : Type 0 where
   pub fit : IsFitSize (size_of d)
-  pub clusters : v.clusters ≡ clusters_on d.seen
+  pub clusters : v.clusters ≡ clusters_for d
   pub powers : d.powers ≡ past.told
 
 -- After an event that met Device only the policy stands, what shows of the volume, and what a restart may open.

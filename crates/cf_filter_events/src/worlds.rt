@@ -15,7 +15,7 @@ ghost use Rattle.cf_model.specs.Events.{is_of};
 ghost use Rattle.cf_model.specs.Powers.{StandsNow};
 ghost use Rattle.cf_model.specs.State.{State, first_policy, start};
 ghost use Rattle.cf_model.specs.Store.{Held};
-ghost use Rattle.cf_volume_points.specs.Standing.{clusters_on};
+ghost use Rattle.cf_volume_points.specs.Standing.{clusters_for};
 ghost use Rattle.cf_volume.specs.Calls.{IsCause, StopsOnly};
 
 use crate::actors::Actor;
@@ -46,7 +46,7 @@ impl<D: Disk, A: Actor> Acting<D, A> {
     /// back.
     pub fn start(alloc: Global, disk: D, actor: A) -> Result<Acting<D, A>, (D, A, CallError)>
         requires { IsFitSize (size_of (D.state disk)) }
-        ensures ok { (remote : Held) → A.acts.stands actor (start A.acts.mode remote (clusters_on (D.state disk).seen)) → IfOk result (λ a. (past : Past) → past.told ≡ (D.state disk).powers → Is A.acts D.state past a (start A.acts.mode remote (clusters_on (D.state disk).seen))) }
+        ensures ok { (remote : Held) → A.acts.stands actor (start A.acts.mode remote (clusters_for (D.state disk))) → IfOk result (λ a. (past : Past) → past.told ≡ (D.state disk).powers → Is A.acts D.state past a (start A.acts.mode remote (clusters_for (D.state disk)))) }
         ensures same { IfOk result (λ a. actor_of a ≡ actor) }
         ensures back { IfErr result (λ e. e.1 ≡ actor) }
         ensures goes_on { IfOk result (λ a. GoesOn (D.state disk) (D.state (disk_of a))) }
@@ -74,6 +74,17 @@ impl<D: Disk, A: Actor> Acting<D, A> {
         match self {
             Acting::On(running) => step_on(alloc, running, event),
             Acting::Off(cut) => step_off(alloc, cut, event),
+        }
+    }
+
+    /// Tells the disk that a commit is wanted once so many changes are made. A hint: nothing is promised of it, and the world stands for
+    /// what it stood for.
+    pub fn aim(&mut self, changes: u64)
+        ensures { (past : Past) (s : State) → Is A.acts D.state past self.old s → Is A.acts D.state past self.new s }
+    {
+        match self {
+            Acting::On(running) => running.filter.aim(changes),
+            Acting::Off(cut) => cut.disk.aim(changes),
         }
     }
 

@@ -29,7 +29,7 @@ use Rattle.cf_pair_world.specs.Steps.{Begun, Steps}
 use Rattle.cf_pair_world.specs.declared.worlds.PairWorld.{PairWorld}
 use Rattle.cf_remote.specs.Peers.{IsHeld}
 use Rattle.cf_remote.specs.Told.{Told}
-use Rattle.cf_volume_points.specs.Standing.{clusters_on}
+use Rattle.cf_volume_points.specs.Standing.{clusters_for}
 use Rattle.cf_world.proofs.Counted.{armed_more, armed_none, at_most, met_more, met_none}
 use Rattle.cf_world.proofs.OverPowers.{gains_then, last_then}
 use Rattle.cf_world.specs.Led.{FailsArmed, armed_after, met_by}
@@ -87,7 +87,7 @@ led_none disk now goes = record { gains = refl; met = met_none disk.faults now.f
 
 module _ {D R : Type 0} (state : D → Disk) (told : R → Told) (first second : D) (remote : R) where
   abbrev began : Held → Pair
-  began held = start_pair held (clusters_on (state first).seen) (clusters_on (state second).seen)
+  began held = start_pair held (clusters_for (state first)) (clusters_for (state second))
 
   -- what a world has done is lawful
   pub run_lawful : (trace : List (PairEvent × PairAnswer)) (w : PairWorld D R) → HasRun state told first second remote trace w → IsLawful state told first second remote trace
@@ -108,7 +108,7 @@ module _ {D R : Type 0} (state : D → Disk) (told : R → Told) (first second :
         second_told = s.second_then.told;
         runs =
             over_push false None None (began held) r.left s.left trace r.first_powers r.second_powers s.first_owns.powers s.second_owns.powers e a s.first_then.last s.second_then.last
-            (λ _. start_pair_named false held (clusters_on (state first).seen) (clusters_on (state second).seen)) r.runs s.step s.settled
+            (λ _. start_pair_named false held (clusters_for (state first)) (clusters_for (state second))) r.runs s.step s.settled
             s.first_owns.power s.second_owns.power;
         first_led =
             subst (λ (xs : List (Event × Answer)). LedDisk (state first) (state (disk_of new.first)) s.first_then.told (r.first_powers ++ s.first_owns.powers) xs) (sym (events_push device.First trace e a))

@@ -29,7 +29,7 @@ use Rattle.cf_pair_world.specs.Sharing.{Shares}
 use Rattle.cf_pair_world.specs.declared.worlds.PairWorld.{PairWorld}
 use Rattle.cf_remote.specs.Peers.{IsHeld}
 use Rattle.cf_remote.specs.Told.{Told}
-use Rattle.cf_volume_points.specs.Standing.{clusters_on}
+use Rattle.cf_volume_points.specs.Standing.{clusters_for}
 use Rattle.cf_world.specs.Led.{FailsArmed, armed_after, met_by}
 
 -- the events of one device, with their answers
@@ -96,7 +96,7 @@ pub record LeadsWorld {D R : Type 0} (state : D → Disk) (told : R → Told) (h
   pub second_powers : List (Choice × List ℕ)
   pub first_told : Option (List (Choice × List ℕ))
   pub second_told : Option (List (Choice × List ℕ))
-  pub runs : RunsOver false None None (start_pair held (clusters_on (state first).seen) (clusters_on (state second).seen)) trace first_powers second_powers left
+  pub runs : RunsOver false None None (start_pair held (clusters_for (state first)) (clusters_for (state second))) trace first_powers second_powers left
   pub first_led : LedDisk (state first) (state (disk_of w.first)) first_told first_powers (events_by device.First trace)
   pub second_led : LedDisk (state second) (state (disk_of w.second)) second_told second_powers (events_by device.Second trace)
   pub faulted : RoseBy (faults_by trace) (told remote).faults (told w.remote).faults
@@ -122,12 +122,12 @@ pub record LeadsPair {D R : Type 0} (state : D → Disk) (told : R → Told) (he
   pub left : Pair
   pub first_powers : List (Choice × List ℕ)
   pub second_powers : List (Choice × List ℕ)
-  pub runs : RunsOver false None None (start_pair held (clusters_on (state first).seen) (clusters_on (state second).seen)) trace first_powers second_powers left
+  pub runs : RunsOver false None None (start_pair held (clusters_for (state first)) (clusters_for (state second))) trace first_powers second_powers left
   pub first_leaves : LeavesDisk (state first) (state first_back) first_powers (events_by device.First trace) left.first
   pub second_leaves : LeavesDisk (state second) (state second_back) second_powers (events_by device.Second trace) left.second
   pub faulted : RoseBy (faults_by trace) (told remote).faults (told after).faults
   pub holds : IsHeld (told after).held left.held
-  pub promised : Promised (start_pair held (clusters_on (state first).seen) (clusters_on (state second).seen)) trace left
+  pub promised : Promised (start_pair held (clusters_for (state first)) (clusters_for (state second))) trace left
 
 abbrev pub Leads : {D R : Type 0} → (D → Disk) → (R → Told) → D → D → R → List (PairEvent × PairAnswer) → D → D → R → Type 0
 Leads state told first second remote trace first_back second_back after = (held : Held) → IsHeld (told remote).held held → LeadsPair state told held first second remote trace first_back second_back after

@@ -17,7 +17,7 @@ use Rattle.cf_remote.specs.Told.{Told}
 use Rattle.cf_script.specs.Script.{lines_of}
 use Rattle.cf_script.specs.declared.script_errors.ScriptError.{ScriptError}
 use Rattle.cf_script.specs.declared.script_errors.ScriptError.TheVariants as fails
-use Rattle.cf_volume_points.specs.Standing.{clusters_on}
+use Rattle.cf_volume_points.specs.Standing.{clusters_for}
 use Rattle.cf_world.specs.Runs.{IsComplete, IsFit, IsLength, IsUnfit, fail_line, most_report, most_script}
 
 abbrev pub Trace : Type 0
@@ -106,7 +106,7 @@ Writes Said Lawful Kept text old new status.NotFollowed = ⊥
 
 -- the answers are lawful, whatever the remote held that the run began with and that reports nothing of it
 abbrev pub IsLawful : {D R : Type 0} → (D → Disk) → (R → Told) → D → D → R → Trace → Type 0
-IsLawful state told first second remote trace = (held : Held) → IsHeld (told remote).held held → PairLawful held (clusters_on (state first).seen) (clusters_on (state second).seen) trace
+IsLawful state told first second remote trace = (held : Held) → IsHeld (told remote).held held → PairLawful held (clusters_for (state first)) (clusters_for (state second)) trace
 
 -- what was written of a text by a run that began on these disks with this remote, and leaves those
 abbrev pub WritesOf : {D R : Type 0} → (D → Disk) → (R → Told) → D → D → R → List ℕ → Option (List ℕ) → Option (List ℕ) → Status → D → D → R → Type 0

@@ -14,11 +14,11 @@ use Rattle.cf_pair_lane.specs.declared.absences.Away.{Away}
 use Rattle.cf_pair_world.specs.Sharing.{resting}
 use Rattle.cf_pair_world.specs.Steps.{Begun}
 use Rattle.cf_remote.specs.Told.{Told}
-use Rattle.cf_volume_points.specs.Standing.{clusters_on}
+use Rattle.cf_volume_points.specs.Standing.{clusters_for}
 
 pub begun : {D R : Type 0} (state : D → Disk) (told : R → Told) (first second : D) (remote : R) (ours theirs : Acting D (Syncing Away)) (third : Syncing Away)
-    → ((held : Held) (past : Past) → past.told ≡ (state first).powers → Is resting state past ours (start mode.Replay held (clusters_on (state first).seen)))
-    → ((held : Held) (past : Past) → past.told ≡ (state second).powers → Is resting state past theirs (start mode.Replay held (clusters_on (state second).seen)))
+    → ((held : Held) (past : Past) → past.told ≡ (state first).powers → Is resting state past ours (start mode.Replay held (clusters_for (state first))))
+    → ((held : Held) (past : Past) → past.told ≡ (state second).powers → Is resting state past theirs (start mode.Replay held (clusters_for (state second))))
     → GoesOn (state first) (state (disk_of ours)) → GoesOn (state second) (state (disk_of theirs)) → ((held : Held) → resting.stands third (start mode.Replay held 0))
     → Begun state told first second remote (record { first = ours; second = theirs; third = third; remote = remote })
 begun state told first second remote ours theirs third one two goes on stands = record {

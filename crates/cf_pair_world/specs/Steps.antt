@@ -22,7 +22,7 @@ use Rattle.cf_pair_world.specs.Sharing.{Shares}
 use Rattle.cf_pair_world.specs.declared.worlds.PairWorld.{PairWorld}
 use Rattle.cf_remote.specs.Peers.{IsHeld}
 use Rattle.cf_remote.specs.Told.{Told}
-use Rattle.cf_volume_points.specs.Standing.{clusters_on}
+use Rattle.cf_volume_points.specs.Standing.{clusters_for}
 
 -- A step of the definitions, with this answer, with the power cuts of each disk, and with what the event does to it. The remote's
 -- count of faults rose as often as the answer reports that it failed. A comparison of settled devices says equal, where identities are
@@ -50,7 +50,7 @@ pub record Steps {D R : Type 0} (state : D → Disk) (told : R → Told) (e : Pa
 -- them that was not armed failed.
 pub record Begun {D R : Type 0} (state : D → Disk) (told : R → Told) (first second : D) (remote : R) (w : PairWorld D R) : Type 0 where
   pub shares : (held : Held) (a b : Past) → IsHeld (told remote).held held → a.told ≡ (state first).powers → b.told ≡ (state second).powers
-      → Shares state told a b w (start_pair held (clusters_on (state first).seen) (clusters_on (state second).seen))
+      → Shares state told a b w (start_pair held (clusters_for (state first)) (clusters_for (state second)))
   pub first_goes : GoesOn (state first) (state (disk_of w.first))
   pub second_goes : GoesOn (state second) (state (disk_of w.second))
   pub same : w.remote ≡ remote

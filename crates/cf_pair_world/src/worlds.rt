@@ -15,7 +15,7 @@ ghost use Rattle.cf_pair_traces.specs.Pairs.{Pair};
 ghost use Rattle.cf_pair_world.specs.Sharing.{Shares, resting};
 ghost use Rattle.cf_pair_world.specs.Steps.{Begun, IsStopped};
 ghost use Rattle.cf_volume.specs.Calls.{IsCause, StopsOnly};
-ghost use Rattle.cf_volume_points.specs.Standing.{clusters_on};
+ghost use Rattle.cf_volume_points.specs.Standing.{clusters_for};
 
 use cf_base::CallError;
 use cf_disk::Disk;
@@ -37,7 +37,7 @@ pub struct PairWorld<D: Disk, R: Remote> {
 // A device that was just made on its disk.
 fn new_device<D: Disk>(alloc: Global, disk: D) -> Result<Acting<D, SyncActor<Away>>, (D, CallError)>
     requires { IsFitSize (size_of (D.state disk)) }
-    ensures ok { (held : Held) (past : Past) → past.told ≡ (D.state disk).powers → IfOk result (λ a. Is resting D.state past a (start mode.Replay held (clusters_on (D.state disk).seen))) }
+    ensures ok { (held : Held) (past : Past) → past.told ≡ (D.state disk).powers → IfOk result (λ a. Is resting D.state past a (start mode.Replay held (clusters_for (D.state disk)))) }
     ensures goes_on { IfOk result (λ a. GoesOn (D.state disk) (D.state (disk_of a))) }
     ensures only { IfErr result (λ e. StopsOnly e.1) }
     ensures cause { IfErr result (λ e. IsCause e.1 (D.state disk) (D.state e.0)) }

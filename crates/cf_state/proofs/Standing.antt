@@ -56,13 +56,13 @@ pub text_on : {D A : Type 0} (acts : Acts A) (state : D → Disk) (past : Past) 
 text_on acts state past x s count epoch r counted now told h = text_at x s count epoch r counted now told (shown_on acts state past x s h)
 
 -- no disk has so many clusters that a smaller number is told
-few_clusters : (size clusters used : ℕ) → size ≤ 271581184 → clusters ≡ (size - 3145728) / 4096 → used ≤ clusters → min used 4294967295 ≡ used
-few_clusters size clusters used fit is few = omega (arith, fit, is, few)
+few_clusters : (used : ℕ) → used ≤ 65536 → min used 4294967295 ≡ used
+few_clusters used few = omega (arith, few)
 
 pub used_on : {D A : Type 0} (acts : Acts A) (state : D → Disk) (past : Past) (x : Run D A) (s : State) (n : ℕ) → n ≡ min (length (clusters_in_rows x.filter.known.table.rows)) 4294967295
     → IsOn acts state past x s → n ≡ used_blocks s
 used_on acts state past x s n counted h =
     let shown = shown_on acts state past x s h in
     counted ∙ ap (λ (k : ℕ). min k 4294967295) shown.volume.blocks
-    ∙ few_clusters (length (state x.filter.disk).seen) s.filter.volume.clusters (blocks_used s.filter.volume.items) h.disk.fit.1 h.disk.clusters shown.volume.few
+    ∙ few_clusters (blocks_used s.filter.volume.items) shown.volume.few
     ∙ sym (open_used s.power s.filter.volume shown.power)

@@ -20,7 +20,7 @@ use Rattle.cf_model.specs.Store.{Held}
 use Rattle.cf_model_headline.proofs.HeadlineLaws.{headline, promised}
 use Rattle.cf_model_settling.proofs.Settled.{each_settles}
 use Rattle.cf_remote.specs.Told.{Told}
-use Rattle.cf_volume_points.specs.Standing.{clusters_on}
+use Rattle.cf_volume_points.specs.Standing.{clusters_for}
 use Rattle.cf_io.specs.Moves.{Adds, AddsFront}
 use Rattle.cf_world.proofs.Ends.{long_said, writes_said}
 use Rattle.cf_world.proofs.OverPowers.{over_runs}
@@ -65,9 +65,9 @@ module _ (P Q : List (Event × Answer) → List ℕ → Type 0) (F G : List (Eve
 
 module _ {D R A : Type 0} (state : D → Disk) (told : R → Told) (W : Acts A) (disk back : D) (first left : R) (actor after : A)
     -- the actor stands for each remote of the definitions that the run may begin with
-    (stands : (held : Held) → Begins told W.mode first held → Stood W (clusters_on (state disk).seen) actor held)
+    (stands : (held : Held) → Begins told W.mode first held → Stood W (clusters_for (state disk)) actor held)
     -- and what is left of it says what is left of the remote
-    (leaves : (held : Held) (trace : List (Event × Answer)) (s : State) → W.holds after s → Runs W.mode (start W.mode held (clusters_on (state disk).seen)) trace s → LeavesRemote told W.mode held (clusters_on (state disk).seen) trace s left)
+    (leaves : (held : Held) (trace : List (Event × Answer)) (s : State) → W.holds after s → Runs W.mode (start W.mode held (clusters_for (state disk))) trace s → LeavesRemote told W.mode held (clusters_for (state disk)) trace s left)
     (kept : after ≡ actor → left ≡ first)
     -- and its count of faults rose as the remote's did
     (counts : (n : ℕ) → RoseBy n (W.remote actor).faults (W.remote after).faults → RoseBy n (told first).faults (told left).faults)
@@ -76,7 +76,7 @@ module _ {D R A : Type 0} (state : D → Disk) (told : R → Told) (W : Acts A) 
     → ((fails : List ℕ) → Lists fails (W.remote actor) → ReportsListed fails W.mode None s trace powers t runs) → ReportsExactly W.mode (told first) s trace powers t runs) where
   leads_at : (d : D) (trace : List (Event × Answer)) (held : Held) → LeadsActor state W held disk actor trace d after → LeadsDisk state told W.mode held disk first trace d left
   leads_at d trace held r =
-      let runs = over_runs StandsFor W.mode None (start W.mode held (clusters_on (state disk).seen)) r.left trace r.powers r.runs in
+      let runs = over_runs StandsFor W.mode None (start W.mode held (clusters_for (state disk))) r.left trace r.powers r.runs in
       record {
         left = r.left;
         powers = r.powers;
@@ -86,9 +86,9 @@ module _ {D R A : Type 0} (state : D → Disk) (told : R → Told) (W : Acts A) 
         armed = r.armed;
         reports = r.reports;
         faulted = counts (faults_by trace) r.faulted;
-        exactly = exactly (start W.mode held (clusters_on (state disk).seen)) r.left trace r.powers r.runs r.faulted r.exactly;
+        exactly = exactly (start W.mode held (clusters_for (state disk))) r.left trace r.powers r.runs r.faulted r.exactly;
         lasts = r.lasts;
-        promises = λ fresh. promised W.mode held (clusters_on (state disk).seen) trace r.left fresh runs;
+        promises = λ fresh. promised W.mode held (clusters_for (state disk)) trace r.left fresh runs;
         remote = leaves held trace r.left r.holds runs;
       }
 
@@ -107,7 +107,7 @@ module _ {D R A : Type 0} (state : D → Disk) (told : R → Told) (W : Acts A) 
   -- what was written
   pub written : (text : List ℕ) (old new : Option (List ℕ)) (end : Status) → WritesBy state W disk actor text old new end back after → WritesOf state told W.mode disk first text old new end back left
   written text old new end h =
-      writes_said (λ trace. LeavesActor state W disk actor trace back after) (λ trace. Leads state told W.mode disk first trace back left) (IsLawfulFrom W (clusters_on (state disk).seen) actor) (IsLawful W.mode (Begins told W.mode first) (clusters_on (state disk).seen))
+      writes_said (λ trace. LeavesActor state W disk actor trace back after) (λ trace. Leads state told W.mode disk first trace back left) (IsLawfulFrom W (clusters_for (state disk)) actor) (IsLawful W.mode (Begins told W.mode first) (clusters_for (state disk)))
       W.mode text old new leads (λ trace l held begins. l held (stands held begins)) ((back ≡ disk) × (after ≡ actor)) ((back ≡ disk) × (left ≡ first)) (λ k. (k.0, kept k.1)) end h
 
   -- a device that failed

@@ -22,7 +22,7 @@ use Rattle.cf_volume.specs.Calls.{IsCause, StopsOnly}
 use Rattle.cf_world.proofs.Adding.{adds_nothing}
 use Rattle.cf_world.proofs.Ends.{long_said, refusal_written}
 use Rattle.cf_remote.specs.Told.{Told}
-use Rattle.cf_volume_points.specs.Standing.{clusters_on}
+use Rattle.cf_volume_points.specs.Standing.{clusters_for}
 use Rattle.cf_io.specs.declared.faults.ReadError.{ReadError}
 use Rattle.cf_io.specs.declared.faults.ReadError.TheVariants as reading
 use Rattle.cf_world.specs.Led.{Begins, HasRunOn, IsLawful, Leads, LeavesActor, LeavesText}
@@ -194,7 +194,7 @@ module _ {D R : Type 0} (state : D → Disk) (told : R → Told) (m : Mode) (dis
   -- why it was not read
   pub refused_as : (o : Output) (s : Status) → WritesRefusal m text old new s → WritesAs state told o m disk remote text old new s disk remote
   refused_as output.Report s h =
-      refusal_written (λ trace. Leads state told m disk remote trace disk remote) (IsLawful m (Begins told m remote) (clusters_on (state disk).seen)) ((disk ≡ disk) × (remote ≡ remote)) m text old new s (refl, refl) h
+      refusal_written (λ trace. Leads state told m disk remote trace disk remote) (IsLawful m (Begins told m remote) (clusters_for (state disk))) ((disk ≡ disk) × (remote ≡ remote)) m text old new s (refl, refl) h
   refused_as (output.Ending o) s h =
       refused_end (SaysIn state told o m disk remote disk remote) (λ trace. Leads state told m disk remote trace disk remote) ((disk ≡ disk) × (remote ≡ remote)) (EndsFailed state (λ trace d. Leads state told m disk remote trace d remote) m text disk disk (remote ≡ remote)) m text old new s (refl, refl) h
 

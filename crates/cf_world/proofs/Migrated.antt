@@ -24,7 +24,7 @@ use Rattle.cf_volume_image.specs.Contents.{image_of}
 use Rattle.cf_volume_points.proofs.Points.{Fair}
 use Rattle.cf_volume_points.proofs.Saves.{last_stands}
 use Rattle.cf_volume_points.specs.At.{At}
-use Rattle.cf_volume_points.specs.Standing.{Standing, clusters_on, opened}
+use Rattle.cf_volume_points.specs.Standing.{Standing, clusters_for, opened}
 use Rattle.cf_world.proofs.Adding.{adds_nothing}
 use Rattle.cf_world.proofs.OfTexts.{long_text, not_quiet, some_text, whole_text}
 use Rattle.cf_world.specs.Migrations.{HandsOut, IsEnd, IsMigrated, IsRefused, IsUnfitEnd, IsUnopened, IsUnopenedEnd, IsUnread, Migrates, OfDevice}
@@ -125,7 +125,7 @@ module _ (old now : Disk) (bytes : List ℕ) (held after : Option (List ℕ)) (a
 -- a volume that was opened
 
 pub migrated : (old new : Disk) (p : Parts) → Fair new → (i : Image) × HoldsImage old.seen i × (i.header.last.epoch < most) × (image_of p.contents ≡ raised_image i.header.last.epoch i) → HoldsSecond new.seen (image_of p.contents) → clusters new.seen ≡ clusters old.seen
-    → ((e : ℕ) (log : List (Usn × Change)) (b : Book) → Standing e old.seen log b → At new (known_of p) (opened (e + 1) log b (clusters_on old.seen))) → IsMigrated old.seen new.seen
+    → ((e : ℕ) (log : List (Usn × Change)) (b : Book) → Standing e old.seen log b → At new (known_of p) (opened (e + 1) log b (clusters_for old))) → IsMigrated old.seen new.seen
 migrated old new p fair found holds rest ok = record {
   image = found.0;
   held = found.1;
@@ -133,7 +133,7 @@ migrated old new p fair found holds rest ok = record {
   holds = subst (λ (i : Image). HoldsSecond new.seen i) found.3 holds;
   clusters_are = rest;
   stands = λ e log b st. subst (λ (l : List (Usn × Change)). Standing (e + 1) new.seen l b) (take_all (length log) log (omega arith))
-      (last_stands new new (known_of p) (opened (e + 1) log b (clusters_on old.seen)) fair (ok e log b st) new.seen fair.reads_one);
+      (last_stands new new (known_of p) (opened (e + 1) log b (clusters_for old)) fair (ok e log b st) new.seen fair.reads_one);
 }
 
 -- one that was not

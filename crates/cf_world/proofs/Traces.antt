@@ -11,7 +11,7 @@ use Rattle.cf_disk.specs.Disk.{State as Disk}
 use Rattle.cf_gen.specs.Summaries.{counts_of}
 use Rattle.cf_gen.specs.declared.summaries.Counts.{Counts}
 use Rattle.cf_io.specs.Moves.{AddsFront}
-use Rattle.cf_volume_points.specs.Standing.{clusters_on}
+use Rattle.cf_volume_points.specs.Standing.{clusters_for}
 use Rattle.cf_report.specs.Texts.{texts, text}
 use Rattle.cf_world.proofs.Drafted.{drafted_front, drafted_stops_here}
 use Rattle.cf_world.proofs.WorldRuns.{run_lawful}
@@ -70,7 +70,7 @@ pub played_early : {D A : Type 0} (state : D → Disk) (W : Acts A) (disk : D) (
 played_early state W disk first all i trace w event a old new SinkFault item lt parts run h =
     front_at (λ ps. HasRunOn state W disk first ps w) all (drop (i + 1) all) (trace ++ (event, a) ∷ []) old new (next_event all i trace event a item lt parts) run (subst (λ x. AddsFront old new x) (sym (next_texts trace event a)) h)
 played_early state W disk first all i trace w event a old new OutOfMemory item lt parts run h =
-    front_at (IsLawfulFrom W (clusters_on (state disk).seen) first) all (drop (i + 1) all) (trace ++ (event, a) ∷ []) old new (next_event all i trace event a item lt parts) (run_lawful state W disk first (trace ++ (event, a) ∷ []) w run)
+    front_at (IsLawfulFrom W (clusters_for (state disk)) first) all (drop (i + 1) all) (trace ++ (event, a) ∷ []) old new (next_event all i trace event a item lt parts) (run_lawful state W disk first (trace ++ (event, a) ∷ []) w run)
     (subst (λ x. AddsFront old new x) (sym (next_texts trace event a)) h)
 played_early state W disk first all i trace w event a old new TooLong item lt parts run h = record {
   trace = trace;

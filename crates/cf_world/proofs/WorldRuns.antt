@@ -21,7 +21,7 @@ use Rattle.cf_link.specs.Listed.{Lists}
 use Rattle.cf_model.specs.Powers.{StandsNow}
 use Rattle.cf_model.specs.State.{State, start}
 use Rattle.cf_model.specs.Store.{Held}
-use Rattle.cf_volume_points.specs.Standing.{clusters_on}
+use Rattle.cf_volume_points.specs.Standing.{clusters_for}
 use Rattle.cf_world.proofs.Counted.{armed_more, armed_none, at_most, met_more, met_none}
 use Rattle.cf_world.proofs.OverPowers.{after_all, gains_then, last_then, listed_push, over_push, over_runs}
 use Rattle.cf_world.proofs.RemoteCounts.{faulted_more, faulted_none}
@@ -31,9 +31,9 @@ use Rattle.cf_world.specs.Steps.{IsLawfulFrom}
 
 module _ {D A : Type 0} (state : D → Disk) (W : Acts A) where
   -- what a world has done is lawful
-  pub run_lawful : (disk : D) (first : A) (trace : List (Event × Answer)) (w : Option (Acting D A)) → HasRunOn state W disk first trace w → IsLawfulFrom W (clusters_on (state disk).seen) first trace
+  pub run_lawful : (disk : D) (first : A) (trace : List (Event × Answer)) (w : Option (Acting D A)) → HasRunOn state W disk first trace w → IsLawfulFrom W (clusters_for (state disk)) first trace
   run_lawful disk first trace None h = absurd h
-  run_lawful disk first trace (Some a) h = λ held stood. let r = h held stood in (r.left, over_runs StandsFor W.mode None (start W.mode held (clusters_on (state disk).seen)) r.left trace r.powers r.runs)
+  run_lawful disk first trace (Some a) h = λ held stood. let r = h held stood in (r.left, over_runs StandsFor W.mode None (start W.mode held (clusters_for (state disk))) r.left trace r.powers r.runs)
 
   -- one more event
 
@@ -51,7 +51,7 @@ module _ {D A : Type 0} (state : D → Disk) (W : Acts A) where
         left = t.0;
         powers = r.powers ++ t.1;
         told = t.2.told;
-        runs = over_push StandsFor W.mode None (start W.mode held (clusters_on (state disk).seen)) r.left t.0 trace r.powers t.1 e a t.2.last r.runs t.3 t.4;
+        runs = over_push StandsFor W.mode None (start W.mode held (clusters_for (state disk))) r.left t.0 trace r.powers t.1 e a t.2.last r.runs t.3 t.4;
         gains = gains_then r.powers t.1 (state disk).powers r.told t.2.told r.gains t.5;
         met = met_more trace e a (state disk).faults (state (disk_of old)) (state (disk_of new)) r.met counted;
         armed = λ none. armed_more trace e a (state (disk_of old)) (state (disk_of new)) bears counted (r.armed none);
@@ -59,7 +59,7 @@ module _ {D A : Type 0} (state : D → Disk) (W : Acts A) where
         exactly = λ fails begun.
             let so = r.exactly fails begun in (
               lists_on fails (faults_shown a) (W.remote (actor_of old)) (W.remote (actor_of new)) so.0 failed,
-              listed_push fails W.mode None (start W.mode held (clusters_on (state disk).seen)) r.left t.0 trace r.powers t.1 e a t.2.last r.runs t.3 t.4 so.1
+              listed_push fails W.mode None (start W.mode held (clusters_for (state disk))) r.left t.0 trace r.powers t.1 e a t.2.last r.runs t.3 t.4 so.1
                   (listed_asks fails (faults_shown a) (W.remote (actor_of old)) (W.remote (actor_of new)) r.left.link.remote_asks t.0.link.remote_asks so.0 asked asks failed),
             );
         is = subst (λ (o : Option (List ℕ)). Is W state (record { told = t.2.told; last = o }) new t.0) all t.6;
@@ -80,10 +80,10 @@ module _ {D A : Type 0} (state : D → Disk) (W : Acts A) where
   acts actor (Err x) old new e steps counts bears faults there = tt
 
   -- a world in which nothing has happened
-  pub begins : (disk : D) (first : A) (a : Acting D A) → ((held : Held) → W.stands first (start W.mode held (clusters_on (state disk).seen)) → (past : Past) → past.told ≡ (state disk).powers → Is W state past a (start W.mode held (clusters_on (state disk).seen))) → GoesOn (state disk) (state (disk_of a)) → actor_of a ≡ first
+  pub begins : (disk : D) (first : A) (a : Acting D A) → ((held : Held) → W.stands first (start W.mode held (clusters_for (state disk))) → (past : Past) → past.told ≡ (state disk).powers → Is W state past a (start W.mode held (clusters_for (state disk)))) → GoesOn (state disk) (state (disk_of a)) → actor_of a ≡ first
       → HasRunOn state W disk first [] (Some a)
   begins disk first a starts goes same = λ held stood. record {
-    left = start W.mode held (clusters_on (state disk).seen);
+    left = start W.mode held (clusters_for (state disk));
     powers = [];
     told = (state disk).powers;
     runs = (refl, refl);

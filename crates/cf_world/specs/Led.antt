@@ -29,7 +29,7 @@ use Rattle.cf_model_laws.specs.Premises.{IsFresh}
 use Rattle.cf_model_settling.specs.Settling.{SettlesIfSilent}
 use Rattle.cf_remote.specs.Peers.{IsCount, IsHeld}
 use Rattle.cf_remote.specs.Told.{Told}
-use Rattle.cf_volume_points.specs.Standing.{clusters_on}
+use Rattle.cf_volume_points.specs.Standing.{clusters_for}
 use Rattle.cf_world.specs.RemoteFaults.{ReportsExactly, ReportsListed, faults_by}
 
 -- how many answers of a trace report a device call that failed
@@ -93,16 +93,16 @@ LeavesRemote told Filter held clusters trace left remote = Unit {0}
 pub record LeadsDisk {D R : Type 0} (state : D → Disk) (told : R → Told) (m : Mode) (held : Held) (disk : D) (first : R) (trace : List (Event × Answer)) (back : D) (after : R) : Type 0 where
   pub left : State
   pub powers : List (Choice × List ℕ)
-  pub runs : RunsOver StandsFor m None (start m held (clusters_on (state disk).seen)) trace powers left
+  pub runs : RunsOver StandsFor m None (start m held (clusters_for (state disk))) trace powers left
   pub gains : Gains powers (state disk).powers (state back).powers
   pub met : capped ((state disk).faults + met_by trace) ≤ (state back).faults
   pub armed : (state disk).armed ≡ Some None → FailsArmed false trace
   pub reports : (state disk).armed ≡ Some None → may_fail (state back).armed ≤ 1
   pub faulted : RoseBy (faults_by trace) (told first).faults (told after).faults
-  pub exactly : ReportsExactly m (told first) (start m held (clusters_on (state disk).seen)) trace powers left runs
+  pub exactly : ReportsExactly m (told first) (start m held (clusters_for (state disk))) trace powers left runs
   pub lasts : (c : List ℕ) → (state back).may_leave c → StandsNow StandsFor left c
-  pub promises : IsFresh held → Promises m held (clusters_on (state disk).seen) trace left
-  pub remote : LeavesRemote told m held (clusters_on (state disk).seen) trace left after
+  pub promises : IsFresh held → Promises m held (clusters_for (state disk)) trace left
+  pub remote : LeavesRemote told m held (clusters_for (state disk)) trace left after
 
 -- so it is whichever remote of the definitions the run began with
 abbrev pub Leads : {D R : Type 0} → (D → Disk) → (R → Told) → Mode → D → R → List (Event × Answer) → D → R → Type 0
@@ -113,12 +113,12 @@ pub record LeadsWorld {D A : Type 0} (state : D → Disk) (W : Acts A) (held : H
   pub left : State
   pub powers : List (Choice × List ℕ)
   pub told : Option (List (Choice × List ℕ))
-  pub runs : RunsOver StandsFor W.mode None (start W.mode held (clusters_on (state disk).seen)) trace powers left
+  pub runs : RunsOver StandsFor W.mode None (start W.mode held (clusters_for (state disk))) trace powers left
   pub gains : Gains powers (state disk).powers told
   pub met : capped ((state disk).faults + met_by trace) ≤ (state (disk_of a)).faults
   pub armed : (state disk).armed ≡ Some None → FailsArmed false trace × (may_fail (state (disk_of a)).armed ≤ cond (armed_after false trace) 1 0)
   pub faulted : RoseBy (faults_by trace) (W.remote first).faults (W.remote (actor_of a)).faults
-  pub exactly : (fails : List ℕ) → Lists fails (W.remote first) → Lists fails (W.remote (actor_of a)) × ReportsListed fails W.mode None (start W.mode held (clusters_on (state disk).seen)) trace powers left runs
+  pub exactly : (fails : List ℕ) → Lists fails (W.remote first) → Lists fails (W.remote (actor_of a)) × ReportsListed fails W.mode None (start W.mode held (clusters_for (state disk))) trace powers left runs
   pub is : Is W state (record { told = told; last = last_image None powers }) a left
 
 -- the remotes of the definitions that the actor stands for as the run begins
@@ -128,26 +128,26 @@ Stood W clusters first held = W.stands first (start W.mode held clusters)
 -- The world began on this disk with this actor, and has done these events. It is there but while an event goes on.
 abbrev pub HasRunOn : {D A : Type 0} → (D → Disk) → Acts A → D → A → List (Event × Answer) → Option (Acting D A) → Type 0
 HasRunOn state W disk first trace None = ⊥
-HasRunOn state W disk first trace (Some a) = (held : Held) → Stood W (clusters_on (state disk).seen) first held → LeadsWorld state W held disk first trace a
+HasRunOn state W disk first trace (Some a) = (held : Held) → Stood W (clusters_for (state disk)) first held → LeadsWorld state W held disk first trace a
 
 -- What is left of disk and actor.
 pub record LeadsActor {D A : Type 0} (state : D → Disk) (W : Acts A) (held : Held) (disk : D) (first : A) (trace : List (Event × Answer)) (back : D) (actor : A) : Type 0 where
   pub left : State
   pub powers : List (Choice × List ℕ)
-  pub runs : RunsOver StandsFor W.mode None (start W.mode held (clusters_on (state disk).seen)) trace powers left
+  pub runs : RunsOver StandsFor W.mode None (start W.mode held (clusters_for (state disk))) trace powers left
   pub gains : Gains powers (state disk).powers (state back).powers
   pub met : capped ((state disk).faults + met_by trace) ≤ (state back).faults
   pub armed : (state disk).armed ≡ Some None → FailsArmed false trace
   pub reports : (state disk).armed ≡ Some None → may_fail (state back).armed ≤ 1
   pub faulted : RoseBy (faults_by trace) (W.remote first).faults (W.remote actor).faults
-  pub exactly : (fails : List ℕ) → Lists fails (W.remote first) → ReportsListed fails W.mode None (start W.mode held (clusters_on (state disk).seen)) trace powers left runs
+  pub exactly : (fails : List ℕ) → Lists fails (W.remote first) → ReportsListed fails W.mode None (start W.mode held (clusters_for (state disk))) trace powers left runs
   pub lasts : (c : List ℕ) → (state back).may_leave c → StandsNow StandsFor left c
   pub holds : W.holds actor left
 
 -- whichever remote of the definitions the actor stood for
 abbrev pub LeavesActor : {D A : Type 0} → (D → Disk) → Acts A → D → A → List (Event × Answer) → D → A → Type 0
-LeavesActor state W disk first trace back actor = (held : Held) → Stood W (clusters_on (state disk).seen) first held → LeadsActor state W held disk first trace back actor
+LeavesActor state W disk first trace back actor = (held : Held) → Stood W (clusters_for (state disk)) first held → LeadsActor state W held disk first trace back actor
 
 -- and of the state in which the trace ends this is said
 abbrev pub LeavesText : {D A : Type 0} → (D → Disk) → Acts A → D → A → List (Event × Answer) → D → A → (State → Type 0) → Type 0
-LeavesText state W disk first trace back actor Said = (held : Held) → Stood W (clusters_on (state disk).seen) first held → (l : LeadsActor state W held disk first trace back actor) × Said l.left
+LeavesText state W disk first trace back actor Said = (held : Held) → Stood W (clusters_for (state disk)) first held → (l : LeadsActor state W held disk first trace back actor) × Said l.left

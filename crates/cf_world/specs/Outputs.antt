@@ -19,7 +19,7 @@ use Rattle.cf_remote.specs.Told.{Told}
 use Rattle.cf_report.specs.Texts.{texts}
 use Rattle.cf_script.specs.Script.{IsScript}
 use Rattle.cf_state.specs.Texts.{state_text, used_blocks}
-use Rattle.cf_volume_points.specs.Standing.{clusters_on}
+use Rattle.cf_volume_points.specs.Standing.{clusters_for}
 use Rattle.cf_world.specs.Led.{Begins, Leads, LeadsActor, LeadsDisk, LeavesActor, Stood}
 use Rattle.cf_world.specs.Runs.{IsComplete, IsFit, IsGood, IsLength, IsUnfit, Refuses, RefusesFront, ReportsLong, WritesOf, answers_of, events_of, most_report, most_script}
 use Rattle.cf_world.specs.Steps.{WritesBy}
@@ -45,7 +45,7 @@ SaysOf {D} state LeadsTo end ending.Image trace back last = (d : D) × (l : Lead
 -- of what is left of disk and actor, whichever remote of the definitions the actor stood for
 abbrev pub SaysBy : {D A : Type 0} → (D → Disk) → Acts A → Ending → D → A → D → A → List (Event × Answer) → List ℕ → Type 0
 SaysBy state W o disk first back actor trace last =
-    (held : Held) → Stood W (clusters_on (state disk).seen) first held → SaysOf state (λ d. LeadsActor state W held disk first trace d actor) (λ d l. l.left) o trace back last
+    (held : Held) → Stood W (clusters_for (state disk)) first held → SaysOf state (λ d. LeadsActor state W held disk first trace d actor) (λ d l. l.left) o trace back last
 
 -- and of disk and remote, whichever remote of the definitions the run began with
 abbrev pub SaysIn : {D R : Type 0} → (D → Disk) → (R → Told) → Ending → Mode → D → R → D → R → List (Event × Answer) → List ℕ → Type 0

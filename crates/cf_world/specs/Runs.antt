@@ -9,7 +9,7 @@ use Rattle.cf_base.specs.declared.statuses.Status.TheVariants as status
 use Rattle.cf_disk.specs.Disk.{State as Disk, size_of}
 use Rattle.cf_io.specs.Moves.{Adds, AddsFront}
 use Rattle.cf_journal.specs.Settled.{IsFitSize}
-use Rattle.cf_volume_points.specs.Standing.{clusters_on}
+use Rattle.cf_volume_points.specs.Standing.{clusters_for}
 use Rattle.cf_remote.specs.Told.{Told}
 use Rattle.cf_report.specs.Texts.{text as text_of, texts}
 use Rattle.cf_script.specs.FailEvents.{IsCause}
@@ -233,4 +233,4 @@ WritesRefusal m text old new _ = ⊥
 -- what was written of a text by a run that began on this disk with this remote, and leaves those
 abbrev pub WritesOf : {D R : Type 0} → (D → Disk) → (R → Told) → Mode → D → R → List ℕ → Option (List ℕ) → Option (List ℕ) → Status → D → R → Type 0
 WritesOf state told m disk remote text old new end back left =
-    Writes (λ trace. Leads state told m disk remote trace back left) (IsLawful m (Begins told m remote) (clusters_on (state disk).seen)) ((back ≡ disk) × (left ≡ remote)) m text old new end
+    Writes (λ trace. Leads state told m disk remote trace back left) (IsLawful m (Begins told m remote) (clusters_for (state disk))) ((back ≡ disk) × (left ≡ remote)) m text old new end

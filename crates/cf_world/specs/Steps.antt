@@ -12,7 +12,7 @@ use Rattle.cf_gen.specs.declared.summaries.Counts.{Counts}
 use Rattle.cf_io.specs.Moves.{Adds, AddsFront}
 use Rattle.cf_io.specs.declared.faults.ReadError.{ReadError}
 use Rattle.cf_io.specs.declared.faults.ReadError.TheVariants as reading
-use Rattle.cf_volume_points.specs.Standing.{clusters_on}
+use Rattle.cf_volume_points.specs.Standing.{clusters_for}
 use Rattle.cf_report.specs.Texts.{texts}
 use Rattle.cf_filter_events.specs.Actors.{Acts}
 use Rattle.cf_filter_events.specs.declared.places.Acting.{Acting}
@@ -95,9 +95,9 @@ IsLawfulFrom W clusters first trace = IsLawful W.mode (Stood W clusters first) c
 abbrev pub SomePlayed : {D A : Type 0} → (D → Disk) → Acts A → D → A → List Event → Option (List ℕ) → Option (List ℕ) → Option (Acting D A) → PlayError → Type 0
 SomePlayed state W disk first events old new w play.TooLong = PlaysLong (λ trace. HasRunOn state W disk first trace w) events old new
 SomePlayed state W disk first events old new w play.SinkFault = PlaysFront (λ trace. HasRunOn state W disk first trace w) events old new
-SomePlayed state W disk first events old new w play.OutOfMemory = PlaysFront (IsLawfulFrom W (clusters_on (state disk).seen) first) events old new
+SomePlayed state W disk first events old new w play.OutOfMemory = PlaysFront (IsLawfulFrom W (clusters_for (state disk)) first) events old new
 
 -- What was written of a script that was read, under an actor: as `Writes` says, of what is left of disk and actor.
 abbrev pub WritesBy : {D A : Type 0} → (D → Disk) → Acts A → D → A → List ℕ → Option (List ℕ) → Option (List ℕ) → Status → D → A → Type 0
 WritesBy state W disk first text old new end back actor =
-    Writes (λ trace. LeavesActor state W disk first trace back actor) (IsLawfulFrom W (clusters_on (state disk).seen) first) ((back ≡ disk) × (actor ≡ first)) W.mode text old new end
+    Writes (λ trace. LeavesActor state W disk first trace back actor) (IsLawfulFrom W (clusters_for (state disk)) first) ((back ≡ disk) × (actor ≡ first)) W.mode text old new end

@@ -2,7 +2,7 @@ use Rattle.std.proofs.Common.{◌≡◌, ◌+◌, ◌++◌, ◌∷◌, [], List,
 use Rattle.std.proofs.lemmas.List.{drop_all}
 use Rattle.cf_base.specs.declared.answers.Answer.{Answer}
 use Rattle.cf_base.specs.declared.events.Event.{Event}
-use Rattle.cf_volume_points.specs.Standing.{clusters_on}
+use Rattle.cf_volume_points.specs.Standing.{clusters_for}
 use Rattle.cf_report.specs.Texts.{text, texts}
 use Rattle.cf_world.proofs.Adding.{adds_nothing}
 use Rattle.cf_world.proofs.Drafted.{drafted_all}
@@ -31,7 +31,7 @@ returns-in_err-text-clause-err g c = λ disk first h.
     let now = g.K.Sink.held c.loop-event.sink in
     let lawful = run_lawful g.D.Disk.state g.A.Actor.acts disk first u.trace c.loop-event.world u.run in
     err_if (SomePlayed g.D.Disk.state g.A.Actor.acts disk first all old now c.answer.new.world) c.from_residual.result OutOfMemory c.from_residual.ensures.1
-    (played_front (IsLawfulFrom g.A.Actor.acts (clusters_on (g.D.Disk.state disk).seen) first) all (drop c.loop-event.event-index all) u.trace c.loop-event.made c.loop-event.waiting.items old now u.parts lawful u.drafted)
+    (played_front (IsLawfulFrom g.A.Actor.acts (clusters_for (g.D.Disk.state disk)) first) all (drop c.loop-event.event-index all) u.trace c.loop-event.made c.loop-event.waiting.items old now u.parts lawful u.drafted)
 
 pub returns-in_err-made-clause-err : goal.returns-in_err-made-clause-err
 returns-in_err-made-clause-err g c = λ disk first h.

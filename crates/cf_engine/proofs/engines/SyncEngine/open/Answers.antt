@@ -13,13 +13,13 @@ use Rattle.cf_model.specs.Formats.{Image}
 use Rattle.cf_model.specs.Numbers.{most}
 use Rattle.cf_volume.specs.Calls.{IsCause, IsMemory, IsRefused, StopsOnly}
 use Rattle.cf_volume_commit.specs.Loaded.{HoldsImage, StandsOrWas}
-use Rattle.cf_volume_points.specs.Standing.{clusters_on, opened}
+use Rattle.cf_volume_points.specs.Standing.{clusters_for, opened}
 use Rattle.cf_engine.proofs.engines.SyncEngine.open.Goals as goal
 
 pub returns-in-Ok-clause-ok : goal.returns-in-Ok-clause-ok
 returns-in-Ok-clause-ok g c = λ l epoch log b linked standing kept.
-    ok_map c.on_opened.result (λ e. e ≡ record { filter = c.in-Ok.filter; actor = new_engine c.args.link }) (λ e. (past : Past) → past.told ≡ (g.D.Disk.state c.args.disk).powers → IsSyncing g.D.Disk.state g.R.Remote.told past e (on_volume c.args.policy l (opened (epoch + 1) log b (clusters_on (g.D.Disk.state c.args.disk).seen))))
-    (λ e is past powers. opened_by g.D.Disk.state g.R.Remote.told c.args.disk c.in-Ok.filter e c.args.link l past c.args.policy (opened (epoch + 1) log b (clusters_on (g.D.Disk.state c.args.disk).seen)) c.requires c.in-Ok.ensures.runs refl (c.in-Ok.ensures.ok epoch log b standing kept) is linked powers) c.on_opened.ensures.ok
+    ok_map c.on_opened.result (λ e. e ≡ record { filter = c.in-Ok.filter; actor = new_engine c.args.link }) (λ e. (past : Past) → past.told ≡ (g.D.Disk.state c.args.disk).powers → IsSyncing g.D.Disk.state g.R.Remote.told past e (on_volume c.args.policy l (opened (epoch + 1) log b (clusters_for (g.D.Disk.state c.args.disk)))))
+    (λ e is past powers. opened_by g.D.Disk.state g.R.Remote.told c.args.disk c.in-Ok.filter e c.args.link l past c.args.policy (opened (epoch + 1) log b (clusters_for (g.D.Disk.state c.args.disk))) c.requires c.in-Ok.ensures.runs refl (c.in-Ok.ensures.ok epoch log b standing kept) is linked powers) c.on_opened.ensures.ok
 
 pub returns-in-Ok-clause-found : goal.returns-in-Ok-clause-found
 returns-in-Ok-clause-found g c =
