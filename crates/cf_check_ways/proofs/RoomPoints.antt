@@ -1,5 +1,5 @@
 -- The points that restarts open: those of one count are one point, and what is known of points is known after an opening.
-use Rattle.std.proofs.Common.{◌≡◌, ◌≤◌, ◌<◌, ◌+◌, ◌&&◌, ◌⊎◌, ℕ, Bool, true, false, List, [], ◌∷◌, length, nat_lt, take, filter, refl, sym, ◌∙◌, ap, subst, inl, inr, arith, length-take-le}
+use Rattle.std.proofs.Common.{◌≡◌, ◌≤◌, ◌<◌, ◌+◌, ◌⊎◌, ℕ, Bool, true, false, List, [], ◌∷◌, length, nat_lt, take, filter, refl, sym, ◌∙◌, ap, subst, inl, inr, arith, length-take-le}
 use Rattle.cf_base.specs.declared.answers.OpenedBook.{OpenedBook}
 use Rattle.cf_base.specs.declared.answers.Shown.{Shown}
 use Rattle.cf_base.specs.declared.answers.Shown.TheVariants as shown
@@ -36,14 +36,6 @@ sure_alone n (q ∷ []) p has (inr is) sure = absurd is
 sure_alone n (q ∷ []) p has (inl e) sure = let x = sure_kept q [] has.0 in (x.0 ∙ ap (λ (z : Point). z ∷ []) (sym e), x.1 ∙ ap (λ (z : Point). z.count) (sym e))
 sure_alone n (q ∷ r ∷ ps) p has (inl e) sure = absurd (not_both q.sure has.0 (ap (λ (x : Point). x.sure) (sym e) ∙ sure))
 sure_alone n (q ∷ r ∷ ps) p has (inr is) sure = let d = room_dropped q (r ∷ ps) has.0 in let x = sure_alone q.count (r ∷ ps) p has.2 is sure in (d.0 ∙ x.0, d.1 ∙ x.1)
-
-left_true : (a b : Bool) → (a && b) ≡ true → a ≡ true
-left_true true b e = refl
-left_true false b e = e
-
-right_true : (a b : Bool) → (a && b) ≡ true → b ≡ true
-right_true true b e = e
-right_true false b e = let z : false ≡ true = e in absurd cc
 
 one_head : (p q : Point) → p ∷ [] ≡ q ∷ [] → p ≡ q
 one_head p q e = cc
