@@ -68,8 +68,10 @@ module _ (s : State) (k : Known) (v : Volume) (b : Book) (clock : ℕ) (records 
       records = records_is;
       book = λ id e. (anchors id ∙ (at.now.book id e).0, accesses id ∙ (at.now.book id e).1);
       clusters = at.now.clusters;
+      within = at.now.within;
       fits = fits;
       used = at.now.used;
+      load = at.now.load;
     };
   }
 
@@ -153,8 +155,10 @@ module _ (s : State) (k : Known) (v : Volume) (b : Book) (id : ItemId) (r p : Ro
           let away : key.0 ≡ id.0 → ⊥ = λ (q : key.0 ≡ id.0). none-some here.0 (sym (sym here.1 ∙ ap (λ (n : ℕ). find (λ i. i.id.0 == n) v.items) (sym q) ∙ e)) in
           (anchors key away ∙ (at.now.book key e).0, accesses key away ∙ (at.now.book key e).1);
       clusters = at.now.clusters;
+      within = at.now.within;
       fits = fits;
       used = at.now.used;
+      load = at.now.load;
     };
   }
 

@@ -10,7 +10,8 @@ use Rattle.cf_base.specs.declared.changes.Change.{Change}
 use Rattle.cf_base.specs.declared.answers.AuxRecord.{AuxRecord}
 use Rattle.cf_base.specs.declared.ids.ItemId.{ItemId}
 use Rattle.cf_base.specs.declared.ids.Usn.{Usn}
-use Rattle.cf_clusters.specs.Roles.{IsCommitted, committed, is_now, use_of}
+use Rattle.cf_clusters.proofs.Counts.{now_committed}
+use Rattle.cf_clusters.specs.Roles.{IsCommitted, committed, how_many, is_now, use_of}
 use Rattle.cf_clusters.specs.declared.uses.Use.{Use}
 use Rattle.cf_clusters.specs.declared.uses.Use.TheVariants.{Free, Held, Staged, Dropped}
 use Rattle.cf_codec.specs.declared.formats.Format.{Format}
@@ -195,7 +196,7 @@ held_committed uses all (k ∷ ks) owns part =
 
 -- what is known after a commit
 abbrev pub committed_known : Journal → Known → Known
-committed_known j k = record k { journal = j; uses = map committed k.uses; rows_then = []; next_then = k.table.next; records_then = []; keys_made = []; kept = k.count }
+committed_known j k = record k { journal = j; uses = map committed k.uses; rows_then = []; next_then = k.table.next; records_then = []; keys_made = []; kept = k.count; used_then = how_many is_now (map committed k.uses); put_since = 0 }
 
 -- no row has an id from the next one on
 below_next : (h : Header) (rows : List Row) (id : ItemId) → AreSound h (map row_value rows) → cond (ltb id.0 h.next.0) (row_of rows id) None ≡ row_of rows id
@@ -256,9 +257,14 @@ module _ (old new : State) (j : Journal) (k : Known) (v : Volume) (p : Point) (p
       clock = holds.clock;
       records = holds.records;
       book = holds.book;
-      clusters = holds.clusters ∙ sym (length-map k.uses committed);
+      clusters = holds.clusters;
+      within = let long = length-map k.uses committed in omega (arith, long, holds.within);
       fits = holds.fits;
       used = let h = used_committed k.uses (blocks_used v.items) (used_now (cluster_on old.seen) v.book k.table.rows v.items k.uses holds.rows holds.owns) in omega (arith, h);
+      load =
+          let used = used_now (cluster_on old.seen) v.book k.table.rows v.items k.uses holds.rows holds.owns in
+          let now = now_committed k.uses in
+          omega (arith, used, now);
     };
   }
     where

@@ -155,8 +155,10 @@ module _ (s : State) (k : Known) (v : Volume) (id : ItemId) (uses : List Use) (r
       clock = at.now.clock;
       records = records_is;
       book = no_anchors;
-      clusters = at.now.clusters ∙ sym drops.long;
+      clusters = at.now.clusters;
+      within = omega (arith, at.now.within, drops.long);
       fits = fits;
       used = omega (arith, at.now.used, drops.long, drops.free);
+      load = omega (arith, at.now.load);
     };
   }

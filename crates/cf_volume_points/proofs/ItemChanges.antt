@@ -181,9 +181,11 @@ module _ (s t : State) (k : Known) (v : Volume) (c : Change) (r p : Row) (mid us
       clock = at.now.clock ∙ ap (λ (b : Book). b.clock) (sym book_is);
       records = at.now.records ∙ ap aux_records (sym book_is);
       book = subst (λ (b : Book). IsBookOf (effect v.items c (next_number v)) b) (sym book_is) (λ id e. at.now.book id (no_more id e));
-      clusters = at.now.clusters ∙ sym new_clusters;
+      clusters = at.now.clusters;
+      within = omega (arith, at.now.within, new_clusters);
       fits = fits;
       used = omega (arith, at.now.used, new_clusters, moves.free, drops.free, put_count);
+      load = omega (arith, at.now.load);
     };
   }
     where

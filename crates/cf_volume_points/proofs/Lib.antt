@@ -20,3 +20,4 @@ pub mod Readings
 pub mod RowRoom
 pub mod Found
 pub mod BookChanges
+pub mod Loads

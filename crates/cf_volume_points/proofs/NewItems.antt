@@ -148,9 +148,11 @@ module _ (s t : State) (k : Known) (v : Volume) (c : Change) (p : Row) (i : Item
       clock = at.now.clock ∙ ap (λ (b : Book). b.clock) (sym book_is);
       records = at.now.records ∙ ap aux_records (sym book_is);
       book = subst (λ (b : Book). IsBookOf (effect v.items c (next_number v)) b) (sym book_is) (λ id e. at.now.book id (no_more id e));
-      clusters = at.now.clusters ∙ sym moves.long;
+      clusters = at.now.clusters;
+      within = omega (arith, at.now.within, moves.long);
       fits = fits;
       used = omega (arith, at.now.used, moves.long, moves.free, puts);
+      load = omega (arith, at.now.load);
     };
   }
     where

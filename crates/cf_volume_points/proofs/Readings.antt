@@ -46,8 +46,10 @@ module _ (s t : State) (k : Known) (v : Volume) (fair : Fair s) (at : At s k v) 
       records = at.now.records;
       book = at.now.book;
       clusters = at.now.clusters;
+      within = at.now.within;
       fits = at.now.fits;
       used = at.now.used;
+      load = at.now.load;
     };
   }
 

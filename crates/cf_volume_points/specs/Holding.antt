@@ -38,7 +38,8 @@ pub record FitsTable (items : List Item) (b : Book) : Type 0 where
   pub short : image_len items b ≤ most_image
 
 -- What is known is the volume now, and the clusters of the rows are those that the state holds. The used clusters are
--- those of the last point, and those that changes since took.
+-- those of the last point, and those that changes since took. The volume may use fewer clusters than there are. What is
+-- counted of the last point and of changes since is at most what the volume has.
 pub record Holds (s : State) (k : Known) (v : Volume) : Type 0 where
   pub rows : HoldRows (cluster_on s.seen) v.book k.table.rows v.items
   pub owns : Owns k.uses (clusters_in_rows k.table.rows)
@@ -50,6 +51,8 @@ pub record Holds (s : State) (k : Known) (v : Volume) : Type 0 where
   pub clock : k.clock ≡ v.book.clock
   pub records : k.records ≡ aux_records v.book
   pub book : IsBookOf v.items v.book
-  pub clusters : v.clusters ≡ length k.uses
+  pub clusters : v.clusters ≡ k.limit
+  pub within : k.limit ≤ length k.uses
   pub fits : FitsTable v.items v.book
   pub used : length k.uses ≤ how_many is_free k.uses + blocks_used v.items_then + v.put_since
+  pub load : k.used_then + k.put_since ≤ blocks_used v.items_then + v.put_since

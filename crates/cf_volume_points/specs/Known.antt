@@ -27,6 +27,10 @@ pub record Known : Type 0 where
   pub keys_made : List AuxRecord
   -- how many changes the last point has
   pub kept : ℕ
+  -- how many clusters the volume may use, how many it used at the last point, and how many blocks changes put since
+  pub limit : ℕ
+  pub used_then : ℕ
+  pub put_since : ℕ
   pub broken : Bool
 
 -- the ids rise, from low on

@@ -1,10 +1,10 @@
 -- When the bytes of a disk stand for a log and a book.
-use Rattle.std.specs.Prelude.{◌≡◌, ◌+◌, ◌-◌, ◌/◌, ℕ, true, List, [], ◌∷◌, length, None, take}
+use Rattle.std.specs.Prelude.{◌≡◌, ◌+◌, ◌-◌, ◌/◌, ℕ, true, List, [], ◌∷◌, length, min, None, take}
 use Rattle.cf_base.specs.declared.changes.Change.{Change}
 use Rattle.cf_base.specs.declared.ids.ItemId.{ItemId}
 use Rattle.cf_base.specs.declared.ids.Usn.{Usn}
 use Rattle.cf_clusters.specs.Area.{place}
-use Rattle.cf_disk.specs.Disk.{part}
+use Rattle.cf_disk.specs.Disk.{State, part}
 use Rattle.cf_volume_image.specs.States.{IsContentsIn}
 use Rattle.cf_journal.specs.Content.{Content}
 use Rattle.cf_journal.specs.Content as journal
@@ -24,6 +24,10 @@ clusters_on disk = (length disk - 3145728) / 4096
 
 abbrev pub cluster_on : List ℕ → ℕ → List ℕ
 cluster_on disk k = part (place k) 4096 disk
+
+-- how many clusters a volume on the disk may use, whose quota may be less than there are
+abbrev pub clusters_for : State → ℕ
+clusters_for s = min s.quota (clusters_on s.seen)
 
 -- the book keeps no anchor and no access of an item that is not there
 abbrev pub IsBookOf : List Item → Book → Type 0
