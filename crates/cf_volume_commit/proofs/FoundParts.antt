@@ -31,7 +31,7 @@ use Rattle.cf_model.specs.Books.{Book}
 use Rattle.cf_model.specs.Formats.{Image}
 use Rattle.cf_model.specs.Numbers.{most}
 use Rattle.cf_model.specs.Standing.{clusters_of}
-use Rattle.cf_volume_points.specs.Standing.{Standing, clusters_on}
+use Rattle.cf_volume_points.specs.Standing.{Standing, clusters_for, clusters_on}
 use Rattle.cf_table.specs.Spelling.{HasRoom, row_value}
 use Rattle.cf_table.specs.declared.rows.Row.{Row}
 
@@ -67,9 +67,9 @@ module _ (one : OneContent) (old mid : State) (o : Opened) (c : Contents) (settl
   there = record { content = content_of o; holds = holds; told = told }
 
   pub finds : Only old.seen mid → All HasRoom c.rows.rows → (r : Result Parts CallError) → IfOk r (λ p. p.journal ≡ o.journal) → IfOk r (λ p. c.last.epoch < most) → IfOk r (λ p. image_of p.contents ≡ raised_image c.last.epoch (image_of c))
-      → IfOk r (λ p. p.contents.rows.rows ≡ c.rows.rows) → IfOk r (λ p. Opens (clusters_on old.seen) (clusters_of (map row_value p.contents.rows.rows)) p.held) → IfOk r (λ p. (x : Content) × Finds old mid x p)
-  finds only room (Err e) same below image rows opens = tt
-  finds only room (Ok p) same below image rows opens = (
+      → IfOk r (λ p. p.contents.rows.rows ≡ c.rows.rows) → IfOk r (λ p. Opens (clusters_on old.seen) (clusters_of (map row_value p.contents.rows.rows)) p.held) → IfOk r (λ p. p.limit ≡ clusters_for old) → IfOk r (λ p. (x : Content) × Finds old mid x p)
+  finds only room (Err e) same below image rows opens limit = tt
+  finds only room (Ok p) same below image rows opens limit = (
     content_of o,
     record {
       alone = alone;
@@ -82,6 +82,7 @@ module _ (one : OneContent) (old mid : State) (o : Opened) (c : Contents) (settl
       is = image;
       room = subst (λ (rs : List Row). All HasRoom rs) (sym rows) room;
       opens = opens;
+      limit = limit;
     },
   )
 

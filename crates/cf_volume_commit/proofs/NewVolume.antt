@@ -67,8 +67,8 @@ raised_first c e = λ k. record {
   records = (e k).records;
 }
 
-abbrev pub first_parts : Journal → List Use → Contents → Parts
-first_parts j held c = record { journal = j; held = held; contents = record c { last = record { epoch = 1; place = 0 } } }
+abbrev pub first_parts : Journal → List Use → Contents → ℕ → Parts
+first_parts j held c limit = record { journal = j; held = held; contents = record c { last = record { epoch = 1; place = 0 } }; limit = limit }
 
 abbrev front : List model.Row → model.Row
 front [] = model.row_of no_book [] root
@@ -187,25 +187,25 @@ counts_both r s m t n k a b first least most second after limit = record {
     ok (Err e) h = tt
 
 module _ (s : State) (p : Parts) (n : ℕ) (fit : IsFitSize (size_of s)) (number : n ≡ clusters_on s.seen) (is : image_of p.contents ≡ first_image 1) (room : All HasRoom p.contents.rows.rows) (opens : Opens n [] p.held)
-    (rises : RisesFrom 0 p.contents.rows.rows) (kept : AreTableRows p.contents.rows.rows) where
+    (m : ℕ) (limit : p.limit ≡ m) (within : m ≤ n) (rises : RisesFrom 0 p.contents.rows.rows) (kept : AreTableRows p.contents.rows.rows) where
   no_clusters : [] ≡ clusters_of (map row_value p.contents.rows.rows)
   no_clusters = sym (ap (λ (i : Image). clusters_of i.rows) is)
 
-  first_holds : Holds s (known_of p) (new_volume n)
+  first_holds : Holds s (known_of p) (new_volume m)
   first_holds = opened_holds s p 0 n [] no_book
       (subst (λ (i : Image). Stands n (cluster_on s.seen) i [] no_book) (sym is) (first_stands n (cluster_on s.seen)))
       (record { below = tt; whole = (refl, tt, tt) }) (λ id none. (refl, refl)) (ap (λ (i : Image). i.header.last) is)
-      (subst (λ (l : List ℕ). Opens n l p.held) no_clusters opens) kept
+      (subst (λ (l : List ℕ). Opens n l p.held) no_clusters opens) m limit within kept
 
   first_known : Sound (size_of s) (known_of p)
   first_known = sound_before s p fit (opens.size ∙ number) rises kept (first_can p.contents is room) (subst (λ (l : List ℕ). are_apart (length p.held) l ≡ true) no_clusters refl)
 
   first_sound : IsSound (length p.held) (image_of p.contents)
-  first_sound = now_sound s (known_of p) (new_volume n) first_known (new_keepable n) first_holds
+  first_sound = now_sound s (known_of p) (new_volume m) first_known (new_keepable m) first_holds
 
-  pub created_at : (q : Parts) (new : State) → q.contents ≡ p.contents → q.held ≡ map committed p.held → Saved q.journal new (image_of p.contents) → AreRecordsFrom None p.contents.records
-      → size_of new ≡ size_of s → Only new.seen new → clusters new.seen ≡ clusters s.seen → At new (known_of q) (new_volume n)
-  created_at q new contents held saved keys size only rest = raised_at p q contents held s new (new_volume n) first_known first_sound first_holds saved keys size only rest
+  pub created_at : (q : Parts) (new : State) → q.contents ≡ p.contents → q.held ≡ map committed p.held → q.limit ≡ p.limit → Saved q.journal new (image_of p.contents) → AreRecordsFrom None p.contents.records
+      → size_of new ≡ size_of s → Only new.seen new → clusters new.seen ≡ clusters s.seen → At new (known_of q) (new_volume m)
+  created_at q new contents held same saved keys size only rest = raised_at p q contents held same s new (new_volume m) first_known first_sound first_holds saved keys size only rest
 
-  pub created_sound : (q : Parts) → q.contents ≡ p.contents → q.held ≡ map committed p.held → Sound (size_of s) (known_of q)
-  created_sound q contents held = sound_after p q contents held (size_of s) first_known
+  pub created_sound : (q : Parts) → q.contents ≡ p.contents → q.held ≡ map committed p.held → q.limit ≡ p.limit → Sound (size_of s) (known_of q)
+  created_sound q contents held same = sound_after p q contents held same (size_of s) first_known

@@ -1,5 +1,5 @@
 -- What an opening makes of what it found.
-use Rattle.std.proofs.Common.{◌≡◌, inl, inr, ⊎_elim, ℕ, ◌+◌, ◌<◌, List, length, map, None, refl, sym, ◌∙◌, ap, subst}
+use Rattle.std.proofs.Common.{◌≡◌, inl, inr, ⊎_elim, ℕ, ◌+◌, ◌<◌, List, length, map, None, refl, sym, ◌∙◌, ap, subst, arith}
 use Rattle.cf_base.specs.declared.changes.Change.{Change}
 use Rattle.cf_base.specs.declared.ids.Usn.{Usn}
 use Rattle.cf_volume_commit.proofs.OpenedAt.{opened_holds, sound_raised, stands_raised}
@@ -33,7 +33,7 @@ use Rattle.cf_volume_points.specs.At.{At}
 use Rattle.cf_volume_points.specs.Holding.{Holds}
 use Rattle.cf_volume_points.specs.Saving.{IsSaving, Saved}
 use Rattle.cf_volume_points.specs.Sound.{Sound}
-use Rattle.cf_volume_points.specs.Standing.{Standing, cluster_on, clusters_on, opened}
+use Rattle.cf_volume_points.specs.Standing.{Standing, cluster_on, clusters_for, clusters_on, opened}
 use Rattle.cf_table.specs.Tables.{AreTableRows, RisesFrom}
 
 -- what is opened is on the disk
@@ -107,8 +107,8 @@ module _ (old mid : State) (x : Content) (p : Parts) (f : Finds old mid x p) (fi
           (stands_raised f.image.header.last.epoch (clusters_on old.seen) (cluster_on old.seen) f.image log b refl
           (subst (λ (i : Image). Stands (clusters_on old.seen) (cluster_on old.seen) i log b) image_is st.stands)))
 
-      holds_mid : Holds mid (known_of p) (opened (e + 1) log b (clusters_on old.seen))
-      holds_mid = opened_holds mid p e (clusters_on old.seen) log b stands_mid st.given st.book last_is f.opens kept
+      holds_mid : Holds mid (known_of p) (opened (e + 1) log b (clusters_for old))
+      holds_mid = opened_holds mid p e (clusters_on old.seen) log b stands_mid st.given st.book last_is f.opens (clusters_for old) f.limit (omega arith) kept
 
       -- the content of before
       still : (d : List ℕ) → journal.Stands d x × ((c : List ℕ) × mid.may_leave c × (clusters d ≡ clusters c)) → Standing e d log b
@@ -129,12 +129,12 @@ module _ (old mid : State) (x : Content) (p : Parts) (f : Finds old mid x p) (fi
       pub opening_leaves : (new : State) → Leaves old mid old.may_leave → Leaves mid new (IsSaving mid x (image_of p.contents)) → Leaves old new (StandsOrWas e log b old)
       opening_leaves new first second =
           leaves_then old mid new (StandsOrWas e log b old) (IsSaving mid x (image_of p.contents)) (leaves_weaker old mid old.may_leave (StandsOrWas e log b old) first (λ c h. inl h)) second
-          (λ d h. inr (⊎_elim (λ before. inl (still d before)) (λ after. inr (after_stands mid (known_of p) (opened (e + 1) log b (clusters_on old.seen)) found_sound sound_held holds_mid d after)) h))
+          (λ d h. inr (⊎_elim (λ before. inl (still d before)) (λ after. inr (after_stands mid (known_of p) (opened (e + 1) log b (clusters_for old)) found_sound sound_held holds_mid d after)) h))
 
-      pub opening_at : (q : Parts) (new : State) → q.contents ≡ p.contents → q.held ≡ map committed p.held → Saved q.journal new (image_of p.contents) → AreRecordsFrom None p.contents.records
-          → size_of new ≡ size_of mid → Only new.seen new → clusters new.seen ≡ clusters mid.seen → At new (known_of q) (opened (e + 1) log b (clusters_on old.seen))
-      opening_at q new contents held saved keys size only rest =
-          raised_at p q contents held mid new (opened (e + 1) log b (clusters_on old.seen)) found_sound sound_held holds_mid saved keys size only rest
+      pub opening_at : (q : Parts) (new : State) → q.contents ≡ p.contents → q.held ≡ map committed p.held → q.limit ≡ p.limit → Saved q.journal new (image_of p.contents) → AreRecordsFrom None p.contents.records
+          → size_of new ≡ size_of mid → Only new.seen new → clusters new.seen ≡ clusters mid.seen → At new (known_of q) (opened (e + 1) log b (clusters_for old))
+      opening_at q new contents held same saved keys size only rest =
+          raised_at p q contents held same mid new (opened (e + 1) log b (clusters_for old)) found_sound sound_held holds_mid saved keys size only rest
 
-    pub opening_sound : (q : Parts) → q.contents ≡ p.contents → q.held ≡ map committed p.held → Sound (size_of old) (known_of q)
-    opening_sound q contents held = sound_after p q contents held (size_of old) (subst (λ (d : List ℕ). Sound (length d) (known_of p)) f.seen found_sound)
+    pub opening_sound : (q : Parts) → q.contents ≡ p.contents → q.held ≡ map committed p.held → q.limit ≡ p.limit → Sound (size_of old) (known_of q)
+    opening_sound q contents held same = sound_after p q contents held same (size_of old) (subst (λ (d : List ℕ). Sound (length d) (known_of p)) f.seen found_sound)

@@ -98,14 +98,14 @@ stands_raised epoch n cluster i log b is s = record {
 -- what is opened
 
 module _ (s : State) (p : Parts) (epoch n : ℕ) (log : List (Usn × Change)) (b : Book) (stands : Stands n (cluster_on s.seen) (image_of p.contents) log b) (given : IsLogOf epoch log) (book : IsBookOf (items_of log) b)
-    (last : p.contents.last ≡ record { epoch = epoch + 1; place = 0 }) (opens : Opens n (clusters_of (map row_value p.contents.rows.rows)) p.held) where
+    (last : p.contents.last ≡ record { epoch = epoch + 1; place = 0 }) (opens : Opens n (clusters_of (map row_value p.contents.rows.rows)) p.held) (m : ℕ) (limit : p.limit ≡ m) (within : m ≤ n) where
   owns : Owns p.held (clusters_in_rows p.contents.rows.rows)
   owns = subst (λ (l : List ℕ). Owns p.held l) (row_clusters p.contents.rows.rows) (owns_opened n (clusters_of (map row_value p.contents.rows.rows)) p.held stands.apart opens)
 
   fits_sum : (w r t x y : ℕ) → w ≡ 41 + r + x → r ≡ t → x ≡ y → w ≤ 1306624 → 41 + t + y ≤ 1306624
   fits_sum w r t x y e f g le = omega (arith, e, f, g, le)
 
-  pub opened_holds : AreTableRows p.contents.rows.rows → Holds s (known_of p) (opened (epoch + 1) log b n)
+  pub opened_holds : AreTableRows p.contents.rows.rows → Holds s (known_of p) (opened (epoch + 1) log b m)
   opened_holds kept =
       let rows = rows_hold (cluster_on s.seen) b p.contents.rows.rows (items_of log) stands.rows given.whole in
       record {
@@ -119,7 +119,8 @@ module _ (s : State) (p : Parts) (epoch n : ℕ) (log : List (Usn × Change)) (b
         clock = stands.clock;
         records = stands.records;
         book = book;
-        clusters = sym opens.size;
+        clusters = sym limit;
+        within = omega (arith, limit, within, opens.size);
         fits = record {
           few =
               let count = held_count (cluster_on s.seen) b p.contents.rows.rows (items_of log) rows in
@@ -134,4 +135,5 @@ module _ (s : State) (p : Parts) (epoch n : ℕ) (log : List (Usn × Change)) (b
             let dropped = none_dropped n (clusters_of (map row_value p.contents.rows.rows)) p.held opens in
             let now = used_now (cluster_on s.seen) b p.contents.rows.rows (items_of log) p.held rows owns in
             omega (arith, sums, dropped, now);
+        load = let now = used_now (cluster_on s.seen) b p.contents.rows.rows (items_of log) p.held rows owns in omega (arith, now);
       }

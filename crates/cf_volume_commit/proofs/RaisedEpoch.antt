@@ -81,9 +81,9 @@ sound_before s p fit number rises kept can apart = record {
   short = no_longer (length (spell_image (image_of p.contents))) (len_now (known_of p)) (image_len_is (known_of p)) can.short;
 }
 
-module _ (p q : Parts) (contents : q.contents ≡ p.contents) (held : q.held ≡ map committed p.held) where
+module _ (p q : Parts) (contents : q.contents ≡ p.contents) (held : q.held ≡ map committed p.held) (limit : q.limit ≡ p.limit) where
   known_is : committed_known q.journal (known_of p) ≡ known_of q
-  known_is = λ k. known_of (record { journal = q.journal; held = sym held k; contents = sym contents k })
+  known_is = λ k. known_of (record { journal = q.journal; held = sym held k; contents = sym contents k; limit = sym limit k })
 
   pub sound_after : (size : ℕ) → Sound size (known_of p) → Sound size (known_of q)
   sound_after size sound = subst (λ (k : Known). Sound size k) known_is (record {

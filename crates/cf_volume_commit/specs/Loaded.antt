@@ -9,7 +9,7 @@ use Rattle.cf_volume_commit.specs.Leading.{HaveStoredPins, is_full}
 use Rattle.cf_volume_commit.specs.declared.damages.FindError.{FindError}
 use Rattle.cf_volume_commit.specs.declared.damages.FindError.TheVariants as find
 use Rattle.cf_volume_commit.specs.declared.parts.Parts.{Parts}
-use Rattle.cf_clusters.specs.Roles.{Opens}
+use Rattle.cf_clusters.specs.Roles.{Opens, how_many, is_now}
 use Rattle.cf_codec.specs.declared.formats.Format.TheVariants.{Second}
 use Rattle.cf_disk.specs.Disk.{Only, State}
 use Rattle.cf_volume_image.specs.Contents.{image_of}
@@ -25,7 +25,7 @@ use Rattle.cf_model.specs.Numbers.{most}
 use Rattle.cf_model.specs.Rows.{row_of}
 use Rattle.cf_model.specs.Standing.{clusters_of}
 use Rattle.cf_volume_points.specs.Known.{Known}
-use Rattle.cf_volume_points.specs.Standing.{Standing, clusters_on}
+use Rattle.cf_volume_points.specs.Standing.{Standing, clusters_for, clusters_on}
 use Rattle.cf_table.specs.Spelling.{HasRoom, row_value}
 
 -- nothing has changed since its last point
@@ -44,6 +44,9 @@ known_of p = record {
   records_then = [];
   keys_made = [];
   kept = p.contents.count;
+  limit = p.limit;
+  used_then = how_many is_now p.held;
+  put_since = 0;
   broken = false;
 }
 
@@ -102,6 +105,7 @@ pub record Finds (old mid : State) (x : Content) (p : Parts) : Type 0 where
   pub is : image_of p.contents ≡ raised_image image.header.last.epoch image
   pub room : All HasRoom p.contents.rows.rows
   pub opens : Opens (clusters_on old.seen) (clusters_of (map row_value p.contents.rows.rows)) p.held
+  pub limit : p.limit ≡ clusters_for old
 
 -- Within an opening: what a crash might have left before it, or the same changes and book in this epoch or the next.
 abbrev pub StandsOrWas : ℕ → List (Usn × Change) → Book → State → List ℕ → Type 0

@@ -13,11 +13,11 @@ ghost use Rattle.cf_model.specs.State.{new_volume};
 ghost use Rattle.cf_volume_points.specs.At.{At};
 ghost use Rattle.cf_volume_points.specs.Runs.{IsStop};
 ghost use Rattle.cf_volume_points.specs.Sound.{Sound};
-ghost use Rattle.cf_volume_points.specs.Standing.{clusters_on};
+ghost use Rattle.cf_volume_points.specs.Standing.{clusters_for};
 ghost use Rattle.cf_table.specs.Changing.{IsNext};
 ghost use Rattle.cf_table.specs.Spelling.{HasRoom};
 
-use crate::findings::clusters_of_disk;
+use crate::findings::{clusters_of_disk, limit_of};
 use crate::openings::raise;
 use crate::parts::Parts;
 use crate::ranges::has_an_image;
@@ -58,6 +58,7 @@ fn format<D: Disk>(disk: &mut D, image: &[u8]) -> Result<Journal, Stop>
     ensures counts { Counts (32 + length image.now) result (D.state disk.old) (D.state disk.new) }
     ensures same_size { size_of (D.state disk.new) ≡ size_of (D.state disk.old) }
     ensures powers { (D.state disk.new).powers ≡ (D.state disk.old).powers }
+    ensures quota { (D.state disk.new).quota ≡ (D.state disk.old).quota }
     ensures faults { (D.state disk.old).faults ≤ (D.state disk.new).faults }
     ensures calm { may_fail (D.state disk.new).armed ≤ may_fail (D.state disk.old).armed }
     ensures cause { IfErr result (λ e. IsStop e (D.state disk.old) (D.state disk.new)) }
@@ -72,18 +73,20 @@ fn format<D: Disk>(disk: &mut D, image: &[u8]) -> Result<Journal, Stop>
 /// Device where a call of the disk failed, whose count of faults rose. OutOfMemory where there is none.
 pub fn create<D: Disk>(alloc: Global, disk: &mut D) -> Result<Parts, Stop>
     requires { IsFitSize (size_of (D.state disk.old)) }
-    ensures ok { IfOk result (λ p. At (D.state disk.new) (known_of p) (new_volume (clusters_on (D.state disk.old).seen))) }
+    ensures ok { IfOk result (λ p. At (D.state disk.new) (known_of p) (new_volume (clusters_for (D.state disk.old)))) }
     ensures sound { IfOk result (λ p. Sound (size_of (D.state disk.old)) (known_of p)) }
     ensures later { IfOk result (λ p. IsNext (usn_after p.contents.last.epoch p.contents.last.place) p.contents.rows.rows) }
     ensures usable { IfOk result (λ p. p.journal.broken ≡ false) }
     ensures counts { Counts 201 result (D.state disk.old) (D.state disk.new) }
     ensures same_size { size_of (D.state disk.new) ≡ size_of (D.state disk.old) }
     ensures powers { (D.state disk.new).powers ≡ (D.state disk.old).powers }
+    ensures quota { (D.state disk.new).quota ≡ (D.state disk.old).quota }
     ensures faults { (D.state disk.old).faults ≤ (D.state disk.new).faults }
     ensures calm { may_fail (D.state disk.new).armed ≤ may_fail (D.state disk.old).armed }
     ensures cause { IfErr result (λ e. IsStop e (D.state disk.old) (D.state disk.new)) }
 {
     let clusters = clusters_of_disk(disk);
+    let limit = limit_of(disk, clusters);
     let contents = nothing(alloc)?;
     let held = Data::new(alloc, clusters, &[])?;
     let image = spell_image(alloc, &contents)?;
@@ -92,6 +95,7 @@ pub fn create<D: Disk>(alloc: Global, disk: &mut D) -> Result<Parts, Stop>
         journal,
         held,
         contents,
+        limit,
     };
     parts.contents.last = Usn { epoch: 1, place: 0 };
     raise(alloc, disk, &mut parts)?;

@@ -13,7 +13,7 @@ ghost use Rattle.cf_volume_image.specs.Causes.{IsCause, IsKnown};
 ghost use Rattle.cf_volume_image.specs.declared.failures.ImageError.TheVariants as image;
 ghost use Rattle.cf_volume_image.specs.Contents.{image_of};
 ghost use Rattle.cf_volume_image.specs.States.{IsContentsIn};
-ghost use Rattle.cf_volume_points.specs.Standing.{clusters_on};
+ghost use Rattle.cf_volume_points.specs.Standing.{clusters_for, clusters_on};
 
 use crate::damages::{Damage, FindError};
 use cf_base::{OutOfMemory, no_such_state};
@@ -118,6 +118,19 @@ pub(crate) fn clusters_of_disk<D: Disk>(disk: &D) -> u32
     ensures { result ≡ clusters_on (D.state disk.now).seen }
 {
     ((disk.size() - 3_145_728) / 4096) as u32
+}
+
+/// How many of so many clusters of a disk a volume on it may use.
+pub(crate) fn limit_of<D: Disk>(disk: &D, clusters: u32) -> u32
+    requires { clusters ≡ clusters_on (D.state disk.now).seen }
+    ensures { result ≡ clusters_for (D.state disk.now) }
+{
+    let quota = disk.quota();
+    if quota < clusters as u64 {
+        quota as u32
+    } else {
+        clusters
+    }
 }
 
 fn opened(found: Found, contents: Contents) -> (Opened, Contents)

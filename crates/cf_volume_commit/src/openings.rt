@@ -23,14 +23,14 @@ ghost use Rattle.cf_volume_points.specs.At.{At};
 ghost use Rattle.cf_volume_points.specs.Runs.{IsStop};
 ghost use Rattle.cf_volume_points.specs.Saving.{IsSaving, Saved};
 ghost use Rattle.cf_volume_points.specs.Sound.{Sound};
-ghost use Rattle.cf_volume_points.specs.Standing.{Standing, clusters_on, opened};
+ghost use Rattle.cf_volume_points.specs.Standing.{Standing, clusters_for, opened};
 ghost use Rattle.cf_volume_points.specs.declared.stops.Stop.TheVariants as stop;
 ghost use Rattle.cf_table.specs.Changing.{IsNext};
 ghost use Rattle.cf_table.specs.Spelling.{HasRoom, row_value};
 ghost use Rattle.cf_table.specs.Tables.{AreTableRows, RisesFrom};
 
 use crate::damages::FindError;
-use crate::findings::{clusters_of_disk, read_volume};
+use crate::findings::{clusters_of_disk, limit_of, read_volume};
 use crate::parts::Parts;
 use crate::ranges::has_an_image;
 use crate::texts::put_text;
@@ -87,6 +87,7 @@ pub(crate) fn raise<D: Disk>(alloc: Global, disk: &mut D, parts: &mut Parts) -> 
     requires usable { parts.old.journal.broken ≡ false }
     requires written { CanBeWritten parts.old.contents }
     ensures contents { parts.new.contents ≡ parts.old.contents }
+    ensures limit { parts.new.limit ≡ parts.old.limit }
     ensures rise { RisesFrom 0 parts.old.contents.rows.rows }
     ensures kept { AreTableRows parts.old.contents.rows.rows }
     ensures keys_rise { AreRecordsFrom None parts.old.contents.records }
@@ -99,6 +100,7 @@ pub(crate) fn raise<D: Disk>(alloc: Global, disk: &mut D, parts: &mut Parts) -> 
     ensures counts { Counts (bytes_written parts.old.journal (Some (spell_payload (payload_of parts.old.contents [] [] [] []))) (spell_image (image_of parts.old.contents))) result (D.state disk.old) (D.state disk.new) }
     ensures same_size { size_of (D.state disk.new) ≡ size_of (D.state disk.old) }
     ensures powers { (D.state disk.new).powers ≡ (D.state disk.old).powers }
+    ensures quota { (D.state disk.new).quota ≡ (D.state disk.old).quota }
     ensures faults { (D.state disk.old).faults ≤ (D.state disk.new).faults }
     ensures calm { may_fail (D.state disk.new).armed ≤ may_fail (D.state disk.old).armed }
     ensures cause { IfErr result (λ e. IsStop e (D.state disk.old) (D.state disk.new)) }
@@ -134,6 +136,7 @@ fn parts_of(
     journal: Journal,
     mut contents: Contents,
     clusters: u32,
+    limit: u32,
 ) -> Result<Parts, CallError>
     requires { are_apart clusters (clusters_of (map row_value contents.rows.rows)) ≡ true }
     ensures journal { IfOk result (λ p. p.journal ≡ journal) }
@@ -141,6 +144,7 @@ fn parts_of(
     ensures image { IfOk result (λ p. image_of p.contents ≡ raised_image contents.last.epoch (image_of contents)) }
     ensures rows { IfOk result (λ p. p.contents.rows.rows ≡ contents.rows.rows) }
     ensures held { IfOk result (λ p. Opens clusters (clusters_of (map row_value p.contents.rows.rows)) p.held) }
+    ensures limit { IfOk result (λ p. p.limit ≡ limit) }
     ensures last { result ≡ Err (fail.No code.Exhausted) → contents.last.epoch ≡ most }
     ensures only { IfErr result (λ e. (e ≡ fail.No code.Exhausted) ⊎ (e ≡ fail.OutOfMemory)) }
 {
@@ -151,6 +155,7 @@ fn parts_of(
         journal,
         held,
         contents,
+        limit,
     })
 }
 
@@ -166,8 +171,9 @@ fn find<D: Disk>(alloc: Global, disk: &mut D) -> Result<Parts, CallError>
 {
     one_content();
     let clusters = clusters_of_disk(disk);
+    let limit = limit_of(disk, clusters);
     match read_volume(alloc, disk) {
-        Ok(volume) => parts_of(alloc, volume.0.journal, volume.1, clusters),
+        Ok(volume) => parts_of(alloc, volume.0.journal, volume.1, clusters, limit),
         Err(why) => Err(refused(why)),
     }
 }
@@ -182,7 +188,7 @@ fn find<D: Disk>(alloc: Global, disk: &mut D) -> Result<Parts, CallError>
 pub fn load<D: Disk>(alloc: Global, disk: &mut D) -> Result<Parts, CallError>
     requires { IsFitSize (size_of (D.state disk.old)) }
     ensures ok { (e : ℕ) (log : List (Usn × Change)) (b : Book) → Standing e (D.state disk.old).seen log b
-        → IfOk result (λ p. At (D.state disk.new) (known_of p) (opened (e + 1) log b (clusters_on (D.state disk.old).seen))) }
+        → IfOk result (λ p. At (D.state disk.new) (known_of p) (opened (e + 1) log b (clusters_for (D.state disk.old)))) }
     ensures found { IfOk result (λ p. (i : Image) × HoldsImage (D.state disk.old).seen i × (i.header.last.epoch < most) × (image_of p.contents ≡ raised_image i.header.last.epoch i)) }
     ensures holds { IfOk result (λ p. HoldsSecond (D.state disk.new).seen (image_of p.contents)) }
     ensures rest { OnOk result (clusters (D.state disk.new).seen ≡ clusters (D.state disk.old).seen) }
@@ -200,6 +206,7 @@ pub fn load<D: Disk>(alloc: Global, disk: &mut D) -> Result<Parts, CallError>
     ensures at_most { (D.state disk.new).written ≤ (D.state disk.old).written + 1306654 }
     ensures same_size { size_of (D.state disk.new) ≡ size_of (D.state disk.old) }
     ensures powers { (D.state disk.new).powers ≡ (D.state disk.old).powers }
+    ensures quota { (D.state disk.new).quota ≡ (D.state disk.old).quota }
     ensures faults { (D.state disk.old).faults ≤ (D.state disk.new).faults }
     ensures calm { may_fail (D.state disk.new).armed ≤ may_fail (D.state disk.old).armed }
     ensures cause { result ≡ Err (fail.No code.Device) → HasFailed (D.state disk.old) (D.state disk.new) }

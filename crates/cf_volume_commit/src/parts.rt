@@ -10,4 +10,6 @@ pub struct Parts {
     pub journal: Journal,
     pub held: Data,
     pub contents: Contents,
+    /// How many of the disk's clusters the volume may use.
+    pub limit: u32,
 }

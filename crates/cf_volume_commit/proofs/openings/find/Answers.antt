@@ -16,6 +16,7 @@ returns-in-Ok-clause-found g c =
     finds c.one_content.ensures (g.D.Disk.state c.args.disk.now) (g.D.Disk.state c.read_volume.new.disk) c.in-Ok.volume.0 c.in-Ok.volume.1 c.in-Ok.ensures.opened c.read_volume.ensures.reads.keeps.seen c.in-Ok.ensures.told
     c.in-Ok.ensures.durable c.in-Ok.ensures.room c.parts_of.result c.parts_of.ensures.journal c.parts_of.ensures.below c.parts_of.ensures.image c.parts_of.ensures.rows
     (subst (λ (n : ℕ). IfOk c.parts_of.result (λ p. Opens n (clusters_of (map row_value p.contents.rows.rows)) p.held)) c.clusters_of_disk-clusters.ensures c.parts_of.ensures.held)
+    (subst (λ (n : ℕ). IfOk c.parts_of.result (λ p. p.limit ≡ n)) c.limit_of-limit.ensures c.parts_of.ensures.limit)
 
 pub returns-in-Ok-clause-last : goal.returns-in-Ok-clause-last
 returns-in-Ok-clause-last g c = λ is. (

@@ -56,7 +56,7 @@ returns-clause-crash g c = λ e log b st.
 pub returns-in-Ok-clause-ok : goal.returns-in-Ok-clause-ok
 returns-in-Ok-clause-ok g c = λ e log b st.
     let f = c.in_ok-parts.ensures.found in
-    opening_at (g.D.Disk.state c.args.disk.now) (g.D.Disk.state c.find.new.disk) f.0 c.in_ok-parts.parts f.1 c.requires c.raise.ensures.rise c.raise.ensures.kept e log b st c.raise.new.parts (g.D.Disk.state c.raise.new.disk) c.raise.ensures.contents c.in-Ok.ensures.held
+    opening_at (g.D.Disk.state c.args.disk.now) (g.D.Disk.state c.find.new.disk) f.0 c.in_ok-parts.parts f.1 c.requires c.raise.ensures.rise c.raise.ensures.kept e log b st c.raise.new.parts (g.D.Disk.state c.raise.new.disk) c.raise.ensures.contents c.in-Ok.ensures.held c.raise.ensures.limit
     (c.in-Ok.ensures.saved f.0 f.1.image (found_stands (g.D.Disk.state c.args.disk.now) (g.D.Disk.state c.find.new.disk) f.0 c.in_ok-parts.parts f.1 c.requires)) c.raise.ensures.keys_rise c.raise.ensures.same_size c.in-Ok.ensures.durable c.in-Ok.ensures.rest
 
 pub returns-in-Ok-clause-last : goal.returns-in-Ok-clause-last
@@ -69,7 +69,7 @@ returns-in-Ok-clause-last g c = λ e log b st.
 pub returns-in-Ok-clause-sound : goal.returns-in-Ok-clause-sound
 returns-in-Ok-clause-sound g c =
     let f = c.in_ok-parts.ensures.found in
-    opening_sound (g.D.Disk.state c.args.disk.now) (g.D.Disk.state c.find.new.disk) f.0 c.in_ok-parts.parts f.1 c.requires c.raise.ensures.rise c.raise.ensures.kept c.raise.new.parts c.raise.ensures.contents c.in-Ok.ensures.held
+    opening_sound (g.D.Disk.state c.args.disk.now) (g.D.Disk.state c.find.new.disk) f.0 c.in_ok-parts.parts f.1 c.requires c.raise.ensures.rise c.raise.ensures.kept c.raise.new.parts c.raise.ensures.contents c.in-Ok.ensures.held c.raise.ensures.limit
 
 pub returns-in-Ok-clause-found : goal.returns-in-Ok-clause-found
 returns-in-Ok-clause-found g c =
