@@ -76,6 +76,11 @@ module _ (s t : State) (k : Known) (p : Row) (uses : List Use) (after : Table) (
     usable = steady.usable;
   })
 
+-- another count of the blocks put
+pub steady_counted : (size : ℕ) (k : Known) (n : ℕ) → Steady size k → Steady size (record k { put_since = n })
+steady_counted size k n steady =
+    record { fit = steady.fit; clusters = steady.clusters; inside = steady.inside; room = steady.room; later = steady.later; earlier = steady.earlier; usable = steady.usable }
+
 -- a row without a byte
 
 module _ (s : State) (k : Known) (p : Row) (after : Table) (steady : Steady (size_of s) k) (rises : RisesFrom 0 k.table.rows) (new : All (λ r. r.id.0 < p.id.0) k.table.rows) (next : k.table.next.0 ≤ p.id.0) (fresh : IsFresh p)

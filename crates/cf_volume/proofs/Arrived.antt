@@ -34,6 +34,7 @@ use Rattle.cf_table.proofs.TableMeans.{same_pin}
 use Rattle.cf_table.specs.Means.{Means}
 use Rattle.cf_table.specs.Tables.{AreTableRows, IsStored, pin_at, row_of}
 use Rattle.cf_table.specs.declared.rows.Row.{Row}
+use Rattle.cf_volume.specs.Waits.{passes}
 use Rattle.cf_volume.proofs.Judged.{clusters_full, may_be_full, numbers_left, refusal_is}
 use Rattle.cf_volume.specs.NewRows.{Arrives, IsCopied, IsMade}
 
@@ -98,9 +99,9 @@ module _ (s : State) (k : Known) (v : Volume) (c : Change) (row : Row) (i : Item
       both false e = fits_of (put_change c v).items (put_change c v).book (arrival_fits e) ∙ sym e
 
   pub arrival_refused : (blocks : ℕ) → length (puts_into v.items c) ≡ blocks → k.place < most → row.id.0 < 18446744073709551615
-      → why_no_room (c ∷ []) v ≡ cond lacks (Some code.TableFull) (cond (ltb (length k.uses) (how_many is_now k.uses + blocks)) (Some code.Full) None)
+      → why_no_room (c ∷ []) v ≡ cond lacks (Some code.TableFull) (cond (passes k.limit (how_many is_now k.uses) blocks) (Some code.Full) None)
   arrival_refused blocks puts left low =
-      refusal_is c v lacks (ltb (length k.uses) (how_many is_now k.uses + blocks)) (numbers_left c v (arrives.id ∙ le-ltb most_items row.id.0 (omega (arith, low))) (omega (arith, left, at.now.place))) arrival_table (clusters_full s k v c blocks at puts)
+      refusal_is c v lacks (passes k.limit (how_many is_now k.uses) blocks) (numbers_left c v (arrives.id ∙ le-ltb most_items row.id.0 (omega (arith, low))) (omega (arith, left, at.now.place))) arrival_table (clusters_full s k v c blocks at puts)
 
 -- a Make arrives
 

@@ -8,7 +8,7 @@ use Rattle.cf_base.specs.declared.ids.ItemId.{ItemId}
 use Rattle.cf_volume_commit.specs.Differing.{IsThen}
 use Rattle.cf_volume_commit.specs.Leading.{CanBeWritten, HaveStoredPins}
 use Rattle.cf_volume_commit.specs.declared.earlier.Earlier.{Earlier}
-use Rattle.cf_clusters.specs.Roles.{committed}
+use Rattle.cf_clusters.specs.Roles.{committed, how_many, is_now}
 use Rattle.cf_clusters.specs.declared.uses.Use.{Use}
 use Rattle.cf_disk.specs.Disk.{Leaves, Only, State, size_of}
 use Rattle.cf_volume_image.specs.Contents.{image_of}
@@ -97,9 +97,9 @@ sound_parts size p steady rises table can = record {
 
 -- the parts after a commit
 
-pub committed_is : (k : Known) (journal : Journal) (held : List Use) (then : Earlier) → NotesNothing k.table.next then → held ≡ map committed k.uses
-    → committed_known journal k ≡ record k { journal = journal; uses = held; rows_then = then.rows.rows; next_then = then.next; records_then = then.records; keys_made = then.made; kept = k.count }
-committed_is k journal held then nothing uses = λ i. record k {
+pub committed_is : (k : Known) (journal : Journal) (held : List Use) (then : Earlier) (used : ℕ) → NotesNothing k.table.next then → held ≡ map committed k.uses → used ≡ how_many is_now held
+    → committed_known journal k ≡ record k { journal = journal; uses = held; rows_then = then.rows.rows; next_then = then.next; records_then = then.records; keys_made = then.made; kept = k.count; used_then = used; put_since = 0 }
+committed_is k journal held then used nothing uses used_is = λ i. record k {
   journal = journal;
   uses = sym uses i;
   rows_then = sym nothing.rows i;
@@ -107,6 +107,8 @@ committed_is k journal held then nothing uses = λ i. record k {
   records_then = sym nothing.records i;
   keys_made = sym nothing.made i;
   kept = k.count;
+  used_then = sym (used_is ∙ ap (how_many is_now) uses) i;
+  put_since = 0;
 }
 
 pub committed_steady : (old new : State) (k : Known) (journal : Journal) → Steady (size_of old) k → size_of new ≡ size_of old → journal.broken ≡ false → Steady (size_of new) (committed_known journal k)
@@ -145,17 +147,17 @@ module _ (old new : State) (p : Parts) (fair : Fair old) (steady : Steady (size_
   pub commit_leaves : Given (λ s x image. Leaves s new (IsSaving s x (image_of p.contents))) old p → Leaves old new (StandsEither v)
   commit_leaves crash = saving_leaves old new (known_of p) v fair at sound keep (of_last (λ s x image. Leaves s new (IsSaving s x (image_of p.contents))) crash)
 
-  module _ (journal : Journal) (held : List Use) (then : Earlier) (nothing : NotesNothing p.contents.rows.next then) (uses : held ≡ map committed p.held) (saved : Given (λ s x image. Saved journal new (image_of p.contents)) old p)
+  module _ (journal : Journal) (held : List Use) (then : Earlier) (nothing : NotesNothing p.contents.rows.next then) (uses : held ≡ map committed p.held) (used : ℕ) (used_is : used ≡ how_many is_now held) (saved : Given (λ s x image. Saved journal new (image_of p.contents)) old p)
       (keys : AreRecordsFrom None p.contents.records) (size : size_of new ≡ size_of old) (only : Only new.seen new) (rest : clusters new.seen ≡ clusters old.seen) where
     abbrev pub after : Known
-    after = record (known_of p) { journal = journal; uses = held; rows_then = then.rows.rows; next_then = then.next; records_then = then.records; keys_made = then.made; kept = p.contents.count }
+    after = record (known_of p) { journal = journal; uses = held; rows_then = then.rows.rows; next_then = then.next; records_then = then.records; keys_made = then.made; kept = p.contents.count; used_then = used; put_since = 0 }
 
     pub commit_sure : At new after (with_sure_point v)
-    commit_sure = subst (λ (k : Known). At new k (with_sure_point v)) (committed_is (known_of p) journal held then nothing uses)
+    commit_sure = subst (λ (k : Known). At new k (with_sure_point v)) (committed_is (known_of p) journal held then used nothing uses used_is)
         (sure_at old new (known_of p) v fair at journal sound keep (of_last (λ s x image. Saved journal new (image_of p.contents)) saved) keys size only rest)
 
     pub commit_room : At new after (with_room_point v)
-    commit_room = subst (λ (k : Known). At new k (with_room_point v)) (committed_is (known_of p) journal held then nothing uses)
+    commit_room = subst (λ (k : Known). At new k (with_room_point v)) (committed_is (known_of p) journal held then used nothing uses used_is)
         (room_at old new (known_of p) v fair at journal sound keep (of_last (λ s x image. Saved journal new (image_of p.contents)) saved) keys size only rest)
 
 pub not_yes : (b : Bool) → b ≡ false → b ≡ true → ⊥

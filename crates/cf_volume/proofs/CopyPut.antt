@@ -20,6 +20,7 @@ use Rattle.cf_model.specs.Words.{part}
 use Rattle.cf_volume_points.proofs.Extents.{named_once}
 use Rattle.cf_volume_points.proofs.FileRows.{final_blocks, final_bytes, hold_at}
 use Rattle.cf_volume_points.proofs.ItemChanges.{row_holds}
+use Rattle.cf_volume_points.proofs.Loads.{counted_at}
 use Rattle.cf_volume_points.proofs.NewItems.{new_noted}
 use Rattle.cf_volume_points.proofs.Points.{Fair}
 use Rattle.cf_volume_points.proofs.RowChanges.{named_by, times_split}
@@ -33,7 +34,7 @@ use Rattle.cf_ranges.specs.Pairs.{cluster_at}
 use Rattle.cf_table.specs.Means.{IsFresh}
 use Rattle.cf_table.specs.Tables.{AreTableRows, RisesFrom, Table, row_of, with_row}
 use Rattle.cf_table.specs.declared.rows.Row.{Row}
-use Rattle.cf_volume.proofs.AddedPut.{added_put, added_steady}
+use Rattle.cf_volume.proofs.AddedPut.{added_put, added_steady, steady_counted}
 use Rattle.cf_volume.proofs.Carried.{with_extents}
 use Rattle.cf_volume.proofs.Puts.{found_table, inside_named}
 use Rattle.cf_volume.specs.Copies.{AreSources, Duplicates, blocks_of}
@@ -47,9 +48,9 @@ copy_puts s k v c p source i from at found copy =
     ap length (copy.puts ∙ ap (λ (o : Option Item). blocks_holding (part (λ (x : Item). x.held) [] o)) old.1 ∙ sym old.2.blocks) ∙ length-map source.extents (λ (e : ℕ × ℕ). e.0)
 
 module _ (s t : State) (k : Known) (p : Row) (from : ItemId) (uses : List Use) (mid after : Table) (steady : Steady (size_of s) k) (rises : RisesFrom 0 k.table.rows) (stored : AreTableRows k.table.rows)
-    (new : All (λ r. r.id.0 < p.id.0) k.table.rows) (next : k.table.next.0 ≤ p.id.0) (fresh : IsFresh p) (copied : Duplicates from p s t k.uses uses k.table mid) (after_is : after ≡ record mid { next = record { 0 = p.id.0 + 1 } }) where
+    (new : All (λ r. r.id.0 < p.id.0) k.table.rows) (next : k.table.next.0 ≤ p.id.0) (fresh : IsFresh p) (copied : Duplicates from p s t k.uses uses k.table mid) (after_is : after ≡ record mid { next = record { 0 = p.id.0 + 1 } }) (count : ℕ) where
   abbrev pub copied_known : Known
-  copied_known = record k { uses = uses; table = after; place = k.place + 1; count = k.count + 1 }
+  copied_known = record k { uses = uses; table = after; place = k.place + 1; count = k.count + 1; put_since = count }
 
   abbrev es : List (ℕ × ℕ)
   es = copied.extents
@@ -64,7 +65,8 @@ module _ (s t : State) (k : Known) (p : Row) (from : ItemId) (uses : List Use) (
   table_is = after_is ∙ ap (λ (x : Table). record x { next = record { 0 = p.id.0 + 1 } }) copied.table
 
   pub copied_steady : p.number ≡ usn_after k.epoch k.place → Steady (size_of t) copied_known
-  copied_steady number = added_steady s t k row uses after steady rises new next table_is copied.all.moves.size copied.all.moves.long (inside_named (λ j. j < length uses) 0 es copied.all.rising copied.all.inside) copied.room number fresh.anchor
+  copied_steady number = steady_counted (size_of t) (record k { uses = uses; table = after; place = k.place + 1; count = k.count + 1 }) count
+      (added_steady s t k row uses after steady rises new next table_is copied.all.moves.size copied.all.moves.long (inside_named (λ j. j < length uses) 0 es copied.all.rising copied.all.inside) copied.room number fresh.anchor)
 
   -- how often rows name a cluster
   abbrev rest : ℕ → ℕ
@@ -128,8 +130,13 @@ module _ (s t : State) (k : Known) (p : Row) (from : ItemId) (uses : List Use) (
         noted : (anchor_of v.book i.id ≡ no_usn) × (access_of v.book i.id ≡ 0)
         noted = new_noted s k v p i at new copy.arrives.means
 
-    pub copied_put : Fair s → FitsTable (put_change c v).items (put_change c v).book → At t copied_known (put_change c v)
-    copied_put fair fits = added_put s t k row uses after steady rises new next table_is v c i (length source) fair at arrives row_is copied.all.moves copied.all.leaves (omega (arith, copy_puts s k v c p copied.source i from at copied.found copy)) (λ j. blocks.owns j) (λ j some. blocks.others j some) fits
+    puts : length (puts_into v.items c) ≡ length source
+    puts = copy_puts s k v c p copied.source i from at copied.found copy
+
+    pub copied_put : Fair s → FitsTable (put_change c v).items (put_change c v).book → count ≤ k.put_since + length source → At t copied_known (put_change c v)
+    copied_put fair fits few = counted_at t (record k { uses = uses; table = after; place = k.place + 1; count = k.count + 1 }) (put_change c v) count
+        (added_put s t k row uses after steady rises new next table_is v c i (length source) fair at arrives row_is copied.all.moves copied.all.leaves (omega (arith, puts)) (λ j. blocks.owns j) (λ j some. blocks.others j some) fits)
+        (omega (arith, at.now.load, few, puts))
       where
         arrives : Arrives c v row i
         arrives = let h = copy.arrives in record { means = with_extents p es i h.means; items = h.items; book = h.book; next = h.next; longer = h.longer; id = h.id }

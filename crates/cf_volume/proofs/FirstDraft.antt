@@ -99,7 +99,7 @@ module _ (s : State) (p : Parts) (v : Volume) (d : Draft) (at : At s (known_of p
         omega (arith, ap (λ (z : Sizes). z.blocks) more, ap (λ (z : Sizes). z.blocks) less, used);
   }
 
-  pub first_counts : (list : List Change) → FitInTurn list v → Counts p.contents (length p.held) (record { draft = d; steps = 0; table = true; blocks = true }) list list v
+  pub first_counts : (list : List Change) → FitInTurn list v → Counts p.contents p.limit (record { draft = d; steps = 0; table = true; blocks = true }) list list v
   first_counts list fits = record {
     made = v;
     ends = refl;

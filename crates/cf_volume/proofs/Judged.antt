@@ -1,5 +1,5 @@
 -- Whether a change is refused, by the tests of the program.
-use Rattle.std.proofs.Common.{◌≡◌, inl, inr, ℕ, zero, suc, ◌+◌, ◌*◌, ◌<◌, ◌≤◌, Bool, true, false, ◌||◌, ◌&&◌, cond, ltb, List, [], ◌∷◌, length, min, refl, sym, ◌∙◌, ap, subst, arith, Option, Some, None}
+use Rattle.std.proofs.Common.{◌≡◌, inl, inr, ⊎_elim, ℕ, zero, suc, ◌+◌, ◌*◌, ◌<◌, Bool, true, false, ◌||◌, ◌&&◌, cond, ltb, List, [], ◌∷◌, length, min, refl, sym, ◌∙◌, ap, subst, arith, Option, Some, None}
 use Rattle.std.specs.Prelude.{sum_by}
 use Rattle.std.proofs.lemmas.Bool.{cases_Bool, le-ltb, lt-ltb, true≢false}
 use Rattle.std.proofs.lemmas.Option.{same_Some}
@@ -10,8 +10,7 @@ use Rattle.cf_base.specs.declared.ids.ItemId.{ItemId}
 use Rattle.cf_base.specs.declared.ids.Usn.{Usn}
 use Rattle.cf_base.specs.declared.items.Pin.{Pin}
 use Rattle.cf_volume_blocks.specs.Bytes.{puts_in}
-use Rattle.cf_clusters.proofs.Counts.{uses_add_up}
-use Rattle.cf_clusters.specs.Roles.{how_many, is_free, is_now}
+use Rattle.cf_clusters.specs.Roles.{how_many, is_now}
 use Rattle.cf_disk.specs.Disk.{State}
 use Rattle.cf_model.specs.Blocks.{blocks_in, blocks_used, is_full, passes_clusters, puts_into}
 use Rattle.cf_model.specs.Books.{Book, anchor_of}
@@ -41,10 +40,11 @@ use Rattle.cf_table.specs.Tables.{AreTableRows, RisesFrom, row_of}
 use Rattle.cf_table.specs.declared.rows.Row.{Row}
 use Rattle.cf_volume.proofs.Puts.{found_table}
 use Rattle.cf_volume.specs.Laid.{Plans}
+use Rattle.cf_volume.specs.Waits.{MayWait, passes}
 
-pub passes_is : (clusters : ℕ) (items : List Item) (n : ℕ) → blocks_used items ≤ clusters → passes_clusters clusters items n ≡ ltb clusters (blocks_used items + n)
-passes_is clusters items zero le = sym (le-ltb clusters (blocks_used items + 0) (omega (arith, le)))
-passes_is clusters items (suc n) le = refl
+pub passes_is : (clusters : ℕ) (items : List Item) (n : ℕ) → passes_clusters clusters items n ≡ passes clusters (blocks_used items) n
+passes_is clusters items zero = refl
+passes_is clusters items (suc n) = ap (λ (b : Bool). b && ltb clusters (blocks_used items + suc n)) (sym (lt-ltb 0 (suc n) (omega arith)))
 
 -- the clusters that a change needs
 
@@ -57,20 +57,24 @@ both_true true b e f = f
 both_true false b e f = absurd (true≢false (sym e))
 
 module _ (s : State) (k : Known) (v : Volume) (c : Change) (n : ℕ) (at : At s k v) (puts : length (puts_into v.items c) ≡ n) where
-  pub clusters_full : is_full v.clusters v.items c ≡ ltb (length k.uses) (how_many is_now k.uses + n)
+  pub clusters_full : is_full v.clusters v.items c ≡ passes k.limit (how_many is_now k.uses) n
   clusters_full =
       let used = used_now (cluster_on s.seen) v.book k.table.rows v.items k.uses at.now.rows at.now.owns in
-      let all = uses_add_up k.uses in
-      passes_is v.clusters v.items (length (puts_into v.items c)) (omega (arith, used, all, at.now.clusters))
-      ∙ (λ j. ltb (at.now.clusters j) (used j + puts j))
+      passes_is v.clusters v.items (length (puts_into v.items c)) ∙ (λ j. passes (at.now.clusters j) (used j) (puts j))
 
-  -- where too few clusters are free, a commit may be needed before the change
-  pub room_needed : how_many is_free k.uses < n → may_need_room c v ≡ true
-  room_needed few =
-      let some : 0 < length (puts_into v.items c) = omega (arith, few, puts) in
+  -- where the blocks of the last point, and those put since and now, pass the clusters, a commit may be needed before the change
+  room_past : 0 < n → v.clusters < blocks_used v.items_then + (v.put_since + length (puts_into v.items c)) → may_need_room c v ≡ true
+  room_past put past =
+      let some : 0 < length (puts_into v.items c) = omega (arith, put, puts) in
       both_true (ltb 0 (length (puts_into v.items c))) (passes_clusters v.clusters v.items_then (v.put_since + length (puts_into v.items c))) (lt-ltb 0 (length (puts_into v.items c)) some)
       (passes_more v.clusters v.items_then (v.put_since + length (puts_into v.items c)) (omega (arith, some))
-      ∙ lt-ltb v.clusters (blocks_used v.items_then + (v.put_since + length (puts_into v.items c))) (omega (arith, few, puts, at.now.used, at.now.clusters)))
+      ∙ lt-ltb v.clusters (blocks_used v.items_then + (v.put_since + length (puts_into v.items c))) past)
+
+  -- so where the change may wait
+  pub room_needed : MayWait k n → may_need_room c v ≡ true
+  room_needed waits = ⊎_elim
+      (λ few. room_past (omega (arith, few)) (omega (arith, few, puts, at.now.used, at.now.clusters, at.now.within)))
+      (λ heavy. room_past heavy.0 (omega (arith, heavy.1, puts, at.now.load, at.now.clusters))) waits
 
 or_false : (b : Bool) → (b || false) ≡ b
 or_false true = refl
@@ -214,13 +218,13 @@ module _ (s : State) (k : Known) (v : Volume) (c : Change) (row planned : Row) (
   refused_fits e = stay_fits s k v c row planned blocks at rises table kind found numbered long (min size 18446744073709551615) old_len new_len
       (image_is s k v c row planned blocks at rises table kind found numbered size size_is) (old_is s k v c row planned blocks at rises table kind found numbered) (new_is s k v c row planned blocks at rises table kind found numbered) tested e
 
-  pub refused_is : k.place < most → why_no_room (c ∷ []) v ≡ cond long (Some code.TableFull) (cond (ltb (length k.uses) (how_many is_now k.uses + length blocks)) (Some code.Full) None)
-  refused_is left = refusal_is c v long (ltb (length k.uses) (how_many is_now k.uses + length blocks)) (numbers_left c v (needs_no_id c kind) (omega (arith, left, at.now.place)))
+  pub refused_is : k.place < most → why_no_room (c ∷ []) v ≡ cond long (Some code.TableFull) (cond (passes k.limit (how_many is_now k.uses) (length blocks)) (Some code.Full) None)
+  refused_is left = refusal_is c v long (passes k.limit (how_many is_now k.uses) (length blocks)) (numbers_left c v (needs_no_id c kind) (omega (arith, left, at.now.place)))
       (stay_table s k v c row planned blocks at rises table kind found numbered long (min size 18446744073709551615) old_len new_len
       (image_is s k v c row planned blocks at rises table kind found numbered size size_is) (old_is s k v c row planned blocks at rises table kind found numbered) (new_is s k v c row planned blocks at rises table kind found numbered) tested)
       (clusters_full s k v c (length blocks) at (plan_puts s k v c (pin_for c k.table.rows) (next_number v) row planned blocks at kind found numbered))
 
 pub needs_room : (s : State) (k : Known) (v : Volume) (c : Change) (row planned : Row) (blocks : List ℕ) → At s k v → stays c ≡ true → row_of k.table.rows (item_of_change c) ≡ Some row → Plans c (pin_for c k.table.rows) (usn_after k.epoch k.place) row planned blocks
-    → how_many is_free k.uses < length blocks → may_need_room c v ≡ true
-needs_room s k v c row planned blocks at kind found plan few =
-    room_needed s k v c (length blocks) at (plan_puts s k v c (pin_for c k.table.rows) (usn_after k.epoch k.place) row planned blocks at kind found plan) few
+    → MayWait k (length blocks) → may_need_room c v ≡ true
+needs_room s k v c row planned blocks at kind found plan waits =
+    room_needed s k v c (length blocks) at (plan_puts s k v c (pin_for c k.table.rows) (usn_after k.epoch k.place) row planned blocks at kind found plan) waits

@@ -1,5 +1,5 @@
 -- A change of an item that is not there.
-use Rattle.std.proofs.Common.{◌≡◌, ℕ, zero, suc, ◌+◌, ◌-◌, ◌*◌, ◌/◌, ◌<◌, Bool, true, false, cond, eqb, ltb, max, min, List, [], ◌∷◌, length, take, drop, refl, sym, ◌∙◌, ap, subst, arith, Option, Some, None}
+use Rattle.std.proofs.Common.{◌≡◌, ℕ, zero, suc, ◌+◌, ◌-◌, ◌*◌, ◌/◌, ◌<◌, Bool, true, false, cond, eqb, max, min, List, [], ◌∷◌, length, take, drop, refl, sym, ◌∙◌, ap, subst, arith, Option, Some, None}
 use Rattle.std.specs.Prelude.{MatchOption, filter, is_some, not}
 use Rattle.std.specs.List.{list_all}
 use Rattle.std.proofs.lemmas.Bool.{cond-false}
@@ -11,7 +11,6 @@ use Rattle.cf_base.specs.declared.codes.Code.TheVariants as code
 use Rattle.cf_base.specs.declared.ids.ItemId.{ItemId}
 use Rattle.cf_base.specs.declared.ids.Usn.{Usn}
 use Rattle.cf_volume_blocks.specs.Bytes.{puts_in}
-use Rattle.cf_clusters.proofs.Counts.{uses_add_up}
 use Rattle.cf_clusters.specs.Roles.{how_many, is_now}
 use Rattle.cf_disk.specs.Disk.{State}
 use Rattle.cf_model.specs.Blocks.{blocks_of, lacks_in, puts_into}
@@ -43,6 +42,7 @@ use Rattle.cf_table.specs.declared.rows.Row.{Row}
 use Rattle.cf_volume.proofs.Judged.{needs_no_id, numbers_left, passes_is, refusal_is}
 use Rattle.cf_volume.proofs.Puts.{later_next}
 use Rattle.cf_volume.specs.Steady.{Steady}
+use Rattle.cf_volume.specs.Waits.{passes}
 
 -- blocks from the start of a file on
 
@@ -128,12 +128,11 @@ module _ (s : State) (k : Known) (v : Volume) (c : Change) (at : At s k v) (kind
       by true = refl
       by false = fits_of (put_change c v).items (put_change c v).book still_fits
 
-  pub absent_why : (full : Bool) → full ≡ ltb (length k.uses) (how_many is_now k.uses + length (puts_in c [])) → k.place < most → why_no_room (c ∷ []) v ≡ cond full (Some code.Full) None
+  pub absent_why : (full : Bool) → full ≡ passes k.limit (how_many is_now k.uses) (length (puts_in c [])) → k.place < most → why_no_room (c ∷ []) v ≡ cond full (Some code.Full) None
   absent_why full test left =
       let used = used_now (cluster_on s.seen) v.book k.table.rows v.items k.uses at.now.rows at.now.owns in
-      let all = uses_add_up k.uses in
       refusal_is c v false full (numbers_left c v (needs_no_id c kind) (omega (arith, left, at.now.place))) not_full
-      (passes_is v.clusters v.items (length (puts_into v.items c)) (omega (arith, used, all, at.now.clusters)) ∙ (λ j. ltb (at.now.clusters j) (used j + length (puts j))) ∙ sym test)
+      (passes_is v.clusters v.items (length (puts_into v.items c)) ∙ (λ j. passes (at.now.clusters j) (used j) (length (puts j))) ∙ sym test)
 
   pub absent_at : At s (record k { place = k.place + 1; count = k.count + 1 }) (put_change c v)
   absent_at = record {
@@ -159,7 +158,9 @@ module _ (s : State) (k : Known) (v : Volume) (c : Change) (at : At s k v) (kind
       records = at.now.records ∙ ap aux_records (sym book_is);
       book = subst (λ (b : Book). IsBookOf (put_change c v).items b) (sym book_is) (subst (λ (l : List Item). IsBookOf l v.book) (sym items_are) at.now.book);
       clusters = at.now.clusters;
+      within = at.now.within;
       fits = still_fits;
       used = omega (arith, at.now.used);
+      load = omega (arith, at.now.load);
     };
   }

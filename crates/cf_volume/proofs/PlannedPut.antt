@@ -11,6 +11,7 @@ use Rattle.cf_disk.specs.Disk.{State, size_of}
 use Rattle.cf_model.specs.Changes.{next_number, put_change}
 use Rattle.cf_model.specs.Numbers.{usn_after}
 use Rattle.cf_model.specs.State.{Volume}
+use Rattle.cf_volume_points.proofs.Loads.{counted_at}
 use Rattle.cf_volume_points.proofs.Points.{Fair}
 use Rattle.cf_volume_points.specs.At.{At}
 use Rattle.cf_volume_points.specs.Holding.{FitsTable}
@@ -28,6 +29,7 @@ use Rattle.cf_table.specs.Spelling.{HasRoom}
 use Rattle.cf_table.specs.Tables.{AreTableRows, RisesFrom, Table, row_of}
 use Rattle.cf_table.specs.declared.rows.Row.{Row}
 use Rattle.cf_volume.proofs.Carried.{carried_at}
+use Rattle.cf_volume.proofs.Judged.{plan_puts}
 use Rattle.cf_volume.proofs.Noted.{found_id}
 use Rattle.cf_volume.proofs.Puts.{all_with, found_inside, found_table, inside_named, inside_with, known_with, named_inside, next_with, puts_rise, some_row}
 use Rattle.cf_volume.specs.Laid.{AreRising, Carries, Plans}
@@ -47,7 +49,7 @@ module _ (s t : State) (k : Known) (c : Change) (planned : Row) (blocks : List �
       (subst (λ (es : List (ℕ × ℕ)). All (λ j. j < length k.uses) (clusters_in_row (record here.0 { extents = es }))) (sym (plan here.0 here.1).rest.extents)
       (found_inside (λ j. j < length k.uses) k.table.rows (item_of_change c) here.0 steady.inside here.1)) e
 
-  module _ (carries : Carries c (item_of_change c) planned blocks s t k.uses uses k.table after) (notes : Notes (item_of_change c) k.next_then k.table.rows k.rows_then then') where
+  module _ (carries : Carries c (item_of_change c) planned blocks s t k.uses uses k.table after) (notes : Notes (item_of_change c) k.next_then k.table.rows k.rows_then then') (count : ℕ) where
     abbrev row : Row
     row = carries.row
 
@@ -76,8 +78,8 @@ module _ (s t : State) (k : Known) (c : Change) (planned : Row) (blocks : List �
             by true f = let h = carries.settles.all.inside b n f in omega (arith, h, carries.settles.drops.long)
             by false f = absurd (none-some n f)
 
-    pub planned_steady : Steady (size_of t) (record k { uses = uses; table = after; place = k.place + 1; count = k.count + 1; rows_then = then' })
-    planned_steady = subst (λ (x : Table). Steady (size_of t) (record k { uses = uses; table = x; place = k.place + 1; count = k.count + 1; rows_then = then' })) (sym carries.table) (record {
+    pub planned_steady : Steady (size_of t) (record k { uses = uses; table = after; place = k.place + 1; count = k.count + 1; rows_then = then'; put_since = count })
+    planned_steady = subst (λ (x : Table). Steady (size_of t) (record k { uses = uses; table = x; place = k.place + 1; count = k.count + 1; rows_then = then'; put_since = count })) (sym carries.table) (record {
       fit = subst IsFitSize (sym carries.settles.all.moves.size) steady.fit;
       clusters = long ∙ steady.clusters ∙ ap (λ (n : ℕ). (n - 3145728) / 4096) (sym carries.settles.all.moves.size);
       inside = inside_with (λ j. j < length uses) after_row k.table.rows extents_inside (subst (λ (n : ℕ). All (λ j. j < n) (clusters_in_rows k.table.rows)) (sym long) steady.inside);
@@ -88,11 +90,14 @@ module _ (s t : State) (k : Known) (c : Change) (planned : Row) (blocks : List �
     })
 
     pub planned_at : (v : Volume) → Fair s → At s k v → stays c ≡ true → FitsTable (put_change c v).items (put_change c v).book
-        → At t (record k { uses = uses; table = after; place = k.place + 1; count = k.count + 1; rows_then = then' }) (put_change c v)
-    planned_at v fair at kind fits =
+        → count ≤ k.put_since + length blocks → At t (record k { uses = uses; table = after; place = k.place + 1; count = k.count + 1; rows_then = then'; put_since = count }) (put_change c v)
+    planned_at v fair at kind fits few =
+        let puts = plan_puts s k v c (pin_for c k.table.rows) (usn_after k.epoch k.place) row planned blocks at kind carries.found facts in
         let number : usn_after k.epoch k.place ≡ next_number v = (λ i. usn_after (at.now.epoch i) (at.now.place i)) in
         let here = row_holds (cluster_on s.seen) v.book k.table.rows v.items (item_of_change c) row at.now.rows carries.found in
-        carried_at s t k v c planned uses blocks after then' fair at rises kind carries (found_table k.table.rows (item_of_change c) row table carries.found).stored.extents
+        counted_at t (record k { uses = uses; table = after; place = k.place + 1; count = k.count + 1; rows_then = then' }) (put_change c v) count
+        (carried_at s t k v c planned uses blocks after then' fair at rises kind carries (found_table k.table.rows (item_of_change c) row table carries.found).stored.extents
         (λ i m. subst (λ (n : Usn). Means planned (item_effect c (pin_for c k.table.rows) n i)) number (facts.means i m)) facts.rest facts.stored.here facts.puts
         (subst (λ (l : List ℕ). AreRising 0 l) (sym (facts.puts here.0 here.2.means)) (puts_rise c here.0.held)) fits
-        (λ id. ap (λ (x : Table). row_then id then' k.next_then (row_of x.rows id)) carries.table ∙ known_with (item_of_change c) k.next_then k.table.rows k.rows_then then' after_row rises id_is present notes id)
+        (λ id. ap (λ (x : Table). row_then id then' k.next_then (row_of x.rows id)) carries.table ∙ known_with (item_of_change c) k.next_then k.table.rows k.rows_then then' after_row rises id_is present notes id))
+        (omega (arith, at.now.load, few, puts))

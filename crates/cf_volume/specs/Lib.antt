@@ -16,3 +16,4 @@ pub mod Drafting
 pub mod Tallies
 pub mod Besides
 pub mod Written
+pub mod Waits

@@ -30,6 +30,9 @@ known_of p = record {
   records_then = p.then.records;
   keys_made = p.then.made;
   kept = p.kept;
+  limit = p.limit;
+  used_then = p.used_then;
+  put_since = p.put_since;
   broken = p.broken;
 }
 

@@ -57,7 +57,9 @@ impl<D: Disk> Volume<D> {
     }
 
     /// Adds one change, and gives its number. It is durable with the next commit. Where it needs more clusters than are
-    /// free, but no more than a commit makes free, a commit comes first. Beside that it writes at most the blocks into which
+    /// free, but no more than a commit makes free, a commit comes first. One also comes first where the disk wants it at this
+    /// count of changes (`aim`), if the change puts bytes and its blocks with those of the last point and of the changes since
+    /// are more than the volume may use. Beside that it writes at most the blocks into which
     /// it puts bytes. Where it fails, rows, records, count and epoch stay as they were.
     pub fn apply(&mut self, change: &Change) -> Result<Usn, CallError>
         requires fits { Fits change.now self.old.known.table.rows }

@@ -75,6 +75,8 @@ pub(crate) fn commit_parts<D: Disk>(disk: &mut D, parts: &mut Parts) -> Result<(
         Ok(()) => {
             parts.then = then;
             parts.kept = parts.contents.count;
+            parts.used_then = parts.held.used();
+            parts.put_since = 0;
             Ok(())
         }
         Err(stop) => Err(fail_of(stop)),

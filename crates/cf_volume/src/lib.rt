@@ -13,6 +13,7 @@ mod books;
 mod commits;
 mod copy;
 mod files;
+mod fullness;
 mod kinds;
 mod make;
 mod openings;

@@ -16,7 +16,7 @@ ghost use Rattle.cf_model.specs.Formats.{Image};
 ghost use Rattle.cf_model.specs.Numbers.{most};
 ghost use Rattle.cf_model.specs.State.{new_volume};
 ghost use Rattle.cf_volume_points.specs.At.{At};
-ghost use Rattle.cf_volume_points.specs.Standing.{Standing, clusters_on, opened};
+ghost use Rattle.cf_volume_points.specs.Standing.{Standing, clusters_for, opened};
 ghost use Rattle.cf_volume.specs.Calls.{IsCause, IsRefused, Runs, StopsOnly};
 ghost use Rattle.cf_volume.specs.Notes.{NotesNothing};
 ghost use Rattle.cf_volume.specs.Openings.{IsOpenedFrom};
@@ -40,6 +40,7 @@ fn parts_of(alloc: Global, mut then: Earlier, opened: Opened) -> Parts
 {
     then.next = opened.contents.rows.next();
     let kept = opened.contents.count;
+    let used_then = opened.held.used();
     Parts {
         alloc,
         journal: opened.journal,
@@ -47,6 +48,9 @@ fn parts_of(alloc: Global, mut then: Earlier, opened: Opened) -> Parts
         contents: opened.contents,
         then,
         kept,
+        limit: opened.limit,
+        used_then,
+        put_since: 0,
         broken: false,
     }
 }
@@ -54,7 +58,7 @@ fn parts_of(alloc: Global, mut then: Earlier, opened: Opened) -> Parts
 // What may be out of memory comes before the disk.
 fn create_parts<D: Disk>(alloc: Global, disk: &mut D) -> Result<Parts, CallError>
     requires { IsFitSize (size_of (D.state disk.old)) }
-    ensures ok { IfOk result (λ p. At (D.state disk.new) (known_of p) (new_volume (clusters_on (D.state disk.old).seen))) }
+    ensures ok { IfOk result (λ p. At (D.state disk.new) (known_of p) (new_volume (clusters_for (D.state disk.old)))) }
     ensures steady { IfOk result (λ p. Steady (size_of (D.state disk.new)) (known_of p)) }
     ensures usable { IfOk result (λ p. p.broken ≡ false) }
     ensures noted { IfOk result (λ p. IsAtPoint (known_of p)) }
@@ -71,7 +75,7 @@ fn create_parts<D: Disk>(alloc: Global, disk: &mut D) -> Result<Parts, CallError
 
 fn load_parts<D: Disk>(alloc: Global, disk: &mut D) -> Result<Parts, CallError>
     requires { IsFitSize (size_of (D.state disk.old)) }
-    ensures ok { (epoch : ℕ) (log : List (Usn × Change)) (b : Book) → Standing epoch (D.state disk.old).seen log b → IfOk result (λ p. At (D.state disk.new) (known_of p) (opened (epoch + 1) log b (clusters_on (D.state disk.old).seen))) }
+    ensures ok { (epoch : ℕ) (log : List (Usn × Change)) (b : Book) → Standing epoch (D.state disk.old).seen log b → IfOk result (λ p. At (D.state disk.new) (known_of p) (opened (epoch + 1) log b (clusters_for (D.state disk.old)))) }
     ensures found { IfOk result (λ p. (i : Image) × HoldsImage (D.state disk.old).seen i × (i.header.last.epoch < most) × IsOpenedFrom i (known_of p)) }
     ensures absent { IfErr result (λ e. IsRefused e NotAVolume → (i : Image) → HoldsImage (D.state disk.old).seen i → ⊥) }
     ensures exhausted { IfErr result (λ e. IsRefused e Exhausted → (i : Image) × HoldsImage (D.state disk.old).seen i × (i.header.last.epoch ≡ most)) }
@@ -98,7 +102,7 @@ impl<D: Disk> Volume<D> {
     /// Makes a volume on a disk of a fit size, whatever that held, and opens it: its first epoch is 1.
     pub fn format(alloc: Global, mut disk: D) -> Result<Volume<D>, (D, CallError)>
         requires { IsFitSize (size_of (D.state disk)) }
-        ensures ok { IfOk result (λ w. At (D.state w.disk) w.known (new_volume (clusters_on (D.state disk).seen))) }
+        ensures ok { IfOk result (λ w. At (D.state w.disk) w.known (new_volume (clusters_for (D.state disk)))) }
         ensures usable { IfOk result (λ w. w.known.broken ≡ false) }
         ensures noted { IfOk result (λ w. IsAtPoint w.known) }
         ensures only { IfErr result (λ e. StopsOnly e.1) }
@@ -121,7 +125,7 @@ impl<D: Disk> Volume<D> {
     /// or raised.
     pub fn open(alloc: Global, mut disk: D) -> Result<Volume<D>, (D, CallError)>
         requires { IsFitSize (size_of (D.state disk)) }
-        ensures ok { (epoch : ℕ) (log : List (Usn × Change)) (b : Book) → Standing epoch (D.state disk).seen log b → IfOk result (λ w. At (D.state w.disk) w.known (opened (epoch + 1) log b (clusters_on (D.state disk).seen))) }
+        ensures ok { (epoch : ℕ) (log : List (Usn × Change)) (b : Book) → Standing epoch (D.state disk).seen log b → IfOk result (λ w. At (D.state w.disk) w.known (opened (epoch + 1) log b (clusters_for (D.state disk)))) }
         ensures found { IfOk result (λ w. (i : Image) × HoldsImage (D.state disk).seen i × (i.header.last.epoch < most) × IsOpenedFrom i w.known) }
         ensures absent { IfErr result (λ e. IsRefused e.1 NotAVolume → (i : Image) → HoldsImage (D.state disk).seen i → ⊥) }
         ensures exhausted { IfErr result (λ e. IsRefused e.1 Exhausted → (i : Image) × HoldsImage (D.state disk).seen i × (i.header.last.epoch ≡ most)) }

@@ -17,5 +17,10 @@ pub(crate) struct Parts {
     pub(crate) then: Earlier,
     // How many changes the last point has.
     pub(crate) kept: u64,
+    // How many clusters the volume may use, and how many it used at the last point.
+    pub(crate) limit: u32,
+    pub(crate) used_then: u32,
+    // How many blocks changes put since the last point.
+    pub(crate) put_since: u64,
     pub(crate) broken: bool,
 }

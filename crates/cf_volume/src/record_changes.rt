@@ -1,9 +1,8 @@
 //! Changes of items that are not there, put: they are counted, and change no item.
 
-ghost use Rattle.std.specs.Prelude.{◌≡◌, ◌<◌, ◌+◌, ◌^◌, [], None, length, nat_lt, true, IfErr, OnOk, OnErr};
+ghost use Rattle.std.specs.Prelude.{◌≡◌, ◌<◌, ◌+◌, ◌^◌, [], None, length, true, IfErr, OnOk, OnErr};
 ghost use Rattle.cf_base.specs.declared.limits.TheConstants.{MOST_NUMBER};
 ghost use Rattle.cf_volume_blocks.specs.Bytes.{puts_in};
-ghost use Rattle.cf_clusters.specs.Roles.{how_many, is_now};
 ghost use Rattle.cf_disk.specs.Disk.{size_of};
 ghost use Rattle.cf_model.specs.Blocks.{blocks_of};
 ghost use Rattle.cf_model.specs.State.{Volume};
@@ -14,9 +13,9 @@ ghost use Rattle.cf_volume.specs.Calls.{IsCause, IsKept, IsPut};
 ghost use Rattle.cf_volume.specs.Steady.{Steady, known_of};
 ghost use Rattle.cf_volume.specs.Written.{NotesOnly};
 
+use crate::fullness::is_full;
 use crate::parts::Parts;
 use cf_base::{CallError, Change, Code, Usn};
-use cf_clusters::Data;
 use cf_disk::Disk;
 
 // How many blocks so many bytes touch from the start of a file on.
@@ -43,14 +42,6 @@ pub(crate) fn clusters_asked(change: &Change) -> u128
     }
 }
 
-// Whether the state would hold more clusters than there are with so many more.
-fn passes_clusters(held: &Data, more: u128) -> bool
-    requires { more < 2 ^ 80 }
-    ensures { result ≡ nat_lt (length held.now) (how_many is_now held.now + more) }
-{
-    held.used() as u128 + more > held.clusters() as u128
-}
-
 /// Puts a change of an item that is not there, and gives its number. It is refused as one of an empty file is.
 pub(crate) fn put_absent<D: Disk>(
     disk: &D,
@@ -72,7 +63,7 @@ pub(crate) fn put_absent<D: Disk>(
 {
     let _ = disk;
     let last = parts.contents.last;
-    if passes_clusters(&parts.held, clusters_asked(change)) {
+    if is_full(parts, clusters_asked(change)) {
         return Err(CallError::No(Code::Full));
     }
     parts.contents.last.place += 1;

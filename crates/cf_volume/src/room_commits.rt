@@ -132,8 +132,8 @@ fn accept_after_commit<D: Disk>(
     Err(CallError::No(Code::Full))
 }
 
-/// Puts a change, for which a place is left, and gives its number. A commit comes first where the change needs more clusters
-/// than are free. There is no memory for a change that cannot be counted.
+/// Puts a change, for which a place is left, and gives its number. A commit comes first where the change waits for
+/// one. There is no memory for a change that cannot be counted.
 pub(crate) fn accept_with_room<D: Disk>(
     disk: &mut D,
     parts: &mut Parts,

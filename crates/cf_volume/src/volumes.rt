@@ -1,6 +1,6 @@
 //! A volume on a disk, and what is read of it at once.
 
-ghost use Rattle.std.specs.Prelude.{◌≡◌, Some, option_copied, option_map, find, length, true};
+ghost use Rattle.std.specs.Prelude.{◌≡◌, Some, option_copied, option_map, find, true};
 ghost use Rattle.cf_clusters.specs.Roles.{how_many, is_now};
 ghost use Rattle.cf_disk.specs.Disk.{IsUnchanged};
 ghost use Rattle.cf_volume_image.specs.Contents.{record_at};
@@ -50,6 +50,15 @@ impl<D: Disk> Volume<D> {
         ensures known { self.new.known ≡ self.old.known }
     {
         self.disk.arm(calls);
+    }
+
+    /// Hands the number to the disk's `aim`, and changes nothing else.
+    pub fn aim(&mut self, changes: u64)
+        ensures same { IsUnchanged (D.state self.old.disk) (D.state self.new.disk) }
+        ensures armed { (D.state self.new.disk).armed ≡ (D.state self.old.disk).armed }
+        ensures known { self.new.known ≡ self.old.known }
+    {
+        self.disk.aim(changes);
     }
 
     /// The row of an item.
@@ -115,11 +124,11 @@ impl<D: Disk> Volume<D> {
         self.parts.kept
     }
 
-    /// How many clusters there are.
+    /// How many clusters the volume may use, which is at most how many there are.
     pub fn clusters(&self) -> u32
-        ensures { result ≡ length self.now.known.uses }
+        ensures { result ≡ self.now.known.limit }
     {
-        self.parts.held.clusters()
+        self.parts.limit
     }
 
     /// How many clusters the state now holds.

@@ -6,6 +6,7 @@ mod edits;
 mod first_format;
 mod limits;
 mod openings;
+mod quotas;
 mod scripts;
 mod scrubs;
 mod steps;

@@ -26,6 +26,7 @@ ghost use Rattle.cf_volume.specs.Steady.{Steady, known_of};
 ghost use Rattle.cf_volume.specs.Written.{NotesOnly, WritesAtMost};
 
 use crate::copy::clusters::copy_item;
+use crate::fullness::waits_for_room;
 use crate::make::new_items::refusal_of_new;
 use crate::make::rows::plan_copied;
 use crate::parts::Parts;
@@ -45,11 +46,19 @@ fn block_count(rows: &Rows, id: ItemId) -> usize
     }
 }
 
-// Puts the planned row of a copy of a file. The clusters that it needs are free, and there is a number for it.
-fn put_copied<D: Disk>(disk: &mut D, parts: &mut Parts, from: ItemId, row: Row) -> Result<(), Stop>
+// Puts the planned row of a copy of a file, which has so many blocks. The clusters that it needs are free, and there is a
+// number for it.
+fn put_copied<D: Disk>(
+    disk: &mut D,
+    parts: &mut Parts,
+    from: ItemId,
+    row: Row,
+    blocks: usize,
+) -> Result<(), Stop>
     requires steady { Steady (size_of (D.state disk.old)) (known_of parts.old) }
     requires there { row_of parts.old.contents.rows.rows from ≡ None → ⊥ }
     requires free { (r : Row) → row_of parts.old.contents.rows.rows from ≡ Some r → length r.extents ≤ how_many is_free parts.old.held }
+    requires blocks { (r : Row) → row_of parts.old.contents.rows.rows from ≡ Some r → blocks ≡ length r.extents }
     requires new { All (λ r. r.id.0 < row.id.0) parts.old.contents.rows.rows }
     requires next { parts.old.contents.rows.next.0 ≤ row.id.0 }
     requires id { row.id.0 < 18446744073709551615 }
@@ -74,11 +83,12 @@ fn put_copied<D: Disk>(disk: &mut D, parts: &mut Parts, from: ItemId, row: Row) 
     parts.contents.rows.set_next(next);
     parts.contents.last.place += 1;
     parts.contents.count += 1;
+    parts.put_since = parts.put_since.saturating_add(blocks as u64);
     Ok(())
 }
 
-// Puts the planned row of a copy of a file, unless the change is refused, and gives its number. None where the clusters that
-// it needs are not free before a commit; then nothing is done.
+// Puts the planned row of a copy of a file, unless the change is refused, and gives its number. None where it waits for
+// a commit; then nothing is done.
 fn put_judged<D: Disk>(
     disk: &mut D,
     parts: &mut Parts,
@@ -111,17 +121,17 @@ fn put_judged<D: Disk>(
     if let Some(code) = refusal_of_new(disk, parts, &row, blocks) {
         return Err(CallError::No(code));
     }
-    if (parts.held.free() as usize) < blocks {
+    if waits_for_room(disk, parts, blocks) {
         return Ok(None);
     }
-    match put_copied(disk, parts, from, row) {
+    match put_copied(disk, parts, from, row, blocks) {
         Ok(()) => Ok(Some(number)),
         Err(stop) => Err(fail_of(stop)),
     }
 }
 
-/// Puts a Copy, unless it is refused, and gives its number. None where the clusters that it needs are not free before a
-/// commit; then nothing is done.
+/// Puts a Copy, unless it is refused, and gives its number. None where it waits for a commit; then nothing is
+/// done.
 pub(crate) fn put_copy<D: Disk>(
     disk: &mut D,
     parts: &mut Parts,

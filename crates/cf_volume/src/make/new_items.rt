@@ -20,11 +20,11 @@ ghost use Rattle.cf_volume.specs.NewRows.{Arrives, IsMade, IsMake, TestsRow};
 ghost use Rattle.cf_volume.specs.Steady.{Steady, known_of};
 ghost use Rattle.cf_volume.specs.Written.{NotesOnly};
 
+use crate::fullness::is_full;
 use crate::make::rows::{plan_made, put_made};
 use crate::parts::Parts;
 use crate::room::lengths::{is_too_long, len_of};
 use crate::stay::clusters::tell_stored;
-use crate::stay::plans::is_full;
 use cf_base::{CallError, Change, Code, Usn};
 use cf_disk::Disk;
 use cf_table::Row;
@@ -62,7 +62,7 @@ pub(crate) fn refusal_of_new<D: Disk>(
     if lacks_row(&parts.contents, row) {
         return Some(Code::TableFull);
     }
-    if is_full(&parts.held, blocks) {
+    if is_full(parts, blocks as u128) {
         return Some(Code::Full);
     }
     None

@@ -53,7 +53,7 @@ const NO_ROOM: Room = Room {
 // The count of no change.
 fn first_tally<D: Disk>(disk: &D, parts: &Parts) -> Result<Tally, OutOfMemory>
     requires steady { Steady (size_of (D.state disk.now)) (known_of parts.now) }
-    ensures { (v : model) (list : List Change) → At (D.state disk.now) (known_of parts.now) v → FitInTurn list v → IfOk result (λ t. Counts parts.now.contents (length parts.now.held) t list list v) }
+    ensures { (v : model) (list : List Change) → At (D.state disk.now) (known_of parts.now) v → FitInTurn list v → IfOk result (λ t. Counts parts.now.contents parts.now.limit t list list v) }
 {
     let _ = disk;
     let _ = parts.contents.rows.image_len();
@@ -115,11 +115,10 @@ fn has_numbers(last: Usn, list: &[Change]) -> bool
 // The count of changes that would be made in order. None where they do not fit the volume.
 fn tally_of<D: Disk>(disk: &D, parts: &Parts, list: &[Change]) -> Result<Option<Tally>, OutOfMemory>
     requires steady { Steady (size_of (D.state disk.now)) (known_of parts.now) }
-    ensures { (v : model) → At (D.state disk.now) (known_of parts.now) v → FitInTurn list.now v → IfOk result (λ tally. MatchOption tally ⊥ (λ t. Counts parts.now.contents (length parts.now.held) t [] list.now v)) }
+    ensures { (v : model) → At (D.state disk.now) (known_of parts.now) v → FitInTurn list.now v → IfOk result (λ tally. MatchOption tally ⊥ (λ t. Counts parts.now.contents parts.now.limit t [] list.now v)) }
 {
     let mut so_far = first_tally(disk, parts)?;
-    let clusters = parts.held.clusters();
-    if !count_changes(parts.alloc, &parts.contents, clusters, &mut so_far, list)? {
+    if !count_changes(parts.alloc, &parts.contents, parts.limit, &mut so_far, list)? {
         return Ok(None);
     }
     Ok(Some(so_far))

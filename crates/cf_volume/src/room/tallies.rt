@@ -80,14 +80,14 @@ pub(crate) fn is_long(more: Sizes, less: Sizes) -> Result<bool, OutOfMemory>
     Ok(more.items > rows || more.bytes > bytes)
 }
 
-// Whether a change that needs so many clusters would pass them.
-fn is_full(more: Sizes, less: Sizes, clusters: u32, asked: u128) -> Result<bool, OutOfMemory>
-    ensures { IfOk result (λ b. b ≡ cond (asked == 0) false (nat_lt (clusters + less.blocks) (more.blocks + asked))) }
+// Whether a change that needs so many clusters would pass the limit.
+fn is_full(more: Sizes, less: Sizes, limit: u32, asked: u128) -> Result<bool, OutOfMemory>
+    ensures { IfOk result (λ b. b ≡ cond (asked == 0) false (nat_lt (limit + less.blocks) (more.blocks + asked))) }
 {
     if asked == 0 {
         return Ok(false);
     }
-    let there = sum(clusters as u128, less.blocks)?;
+    let there = sum(limit as u128, less.blocks)?;
     Ok(sum(more.blocks, asked)? > there)
 }
 
@@ -118,11 +118,11 @@ pub(crate) fn and_not(before: bool, refused: bool) -> bool
 fn count_change(
     alloc: Global,
     contents: &Contents,
-    clusters: u32,
+    limit: u32,
     so_far: &mut Tally,
     change: &Change,
 ) -> Result<bool, OutOfMemory>
-    ensures { (v : Volume) (rest all : List Change) → Counts contents.now clusters so_far.old (change.now ∷ rest) all v → IfOk result (λ fits. (fits ≡ true) × Counts contents.now clusters so_far.new rest all v) }
+    ensures { (v : Volume) (rest all : List Change) → Counts contents.now limit so_far.old (change.now ∷ rest) all v → IfOk result (λ fits. (fits ≡ true) × Counts contents.now limit so_far.new rest all v) }
 {
     let number = number_at(contents.last, so_far.steps)?;
     let more = so_far.draft.more;
@@ -130,7 +130,7 @@ fn count_change(
     match draft_change(alloc, &mut so_far.draft, contents, change, number)? {
         None => Ok(false),
         Some(asked) => {
-            let full = is_full(more, less, clusters, asked)?;
+            let full = is_full(more, less, limit, asked)?;
             let long = is_long(so_far.draft.more, so_far.draft.less)?;
             let steps = one_more(so_far.steps)?;
             so_far.steps = steps;
@@ -145,14 +145,14 @@ fn count_change(
 pub(crate) fn count_changes(
     alloc: Global,
     contents: &Contents,
-    clusters: u32,
+    limit: u32,
     so_far: &mut Tally,
     list: &[Change],
 ) -> Result<bool, OutOfMemory>
-    ensures { (v : Volume) → Counts contents.now clusters so_far.old list.now list.now v → IfOk result (λ fits. (fits ≡ true) × Counts contents.now clusters so_far.new [] list.now v) }
+    ensures { (v : Volume) → Counts contents.now limit so_far.old list.now list.now v → IfOk result (λ fits. (fits ≡ true) × Counts contents.now limit so_far.new [] list.now v) }
 {
     for change in list {
-        if !count_change(alloc, contents, clusters, so_far, change)? {
+        if !count_change(alloc, contents, limit, so_far, change)? {
             return Ok(false);
         }
     }

@@ -14,6 +14,7 @@ ghost use Rattle.cf_volume.specs.Calls.{IsCause, IsKept, IsPut, Runs};
 ghost use Rattle.cf_volume.specs.Steady.{Steady, known_of};
 ghost use Rattle.cf_volume.specs.Written.{NotesOnly, WritesAtMost};
 
+use crate::fullness::waits_for_room;
 use crate::parts::Parts;
 use crate::stay::plans::{plan_change, refusal_of};
 use crate::stay::rows::put_planned;
@@ -21,8 +22,8 @@ use crate::stop_causes::fail_of;
 use cf_base::{CallError, Change, Usn};
 use cf_disk::Disk;
 
-/// Puts a change of an item that is there and stays, and gives its number. None where the clusters that it needs are not
-/// free before a commit; then nothing is done.
+/// Puts a change of an item that is there and stays, and gives its number. None where it waits for a
+/// commit; then nothing is done.
 pub(crate) fn put_stay<D: Disk>(
     disk: &mut D,
     parts: &mut Parts,
@@ -55,7 +56,7 @@ pub(crate) fn put_stay<D: Disk>(
     if let Some(code) = refusal_of(disk, parts, change, &planned) {
         return Err(CallError::No(code));
     }
-    if (parts.held.free() as usize) < planned.blocks.len() {
+    if waits_for_room(disk, parts, planned.blocks.len()) {
         return Ok(None);
     }
     match put_planned(disk, parts, planned, change) {

@@ -1,6 +1,6 @@
 //! Changes of items that stay, planned and judged.
 
-ghost use Rattle.std.specs.Prelude.{◌≡◌, ◌≤◌, ◌<◌, ◌+◌, ◌∷◌, [], None, Some, length, nat_lt, true, IfNone, IfOk, IfSome};
+ghost use Rattle.std.specs.Prelude.{◌≡◌, ◌≤◌, ◌<◌, ◌+◌, ◌∷◌, [], None, Some, length, true, IfNone, IfOk, IfSome};
 ghost use Rattle.cf_base.specs.declared.limits.TheConstants.{MOST_NUMBER};
 ghost use Rattle.cf_clusters.specs.Roles.{how_many, is_now};
 ghost use Rattle.cf_model.specs.Changes.{put_change, why_no_room};
@@ -15,12 +15,12 @@ ghost use Rattle.cf_volume.specs.Calls.{IsFullness};
 ghost use Rattle.cf_volume.specs.Laid.{Plans};
 ghost use Rattle.cf_volume.specs.Steady.{TestsLength, known_of};
 
+use crate::fullness::is_full;
 use crate::kinds::pin_for;
 use crate::parts::Parts;
 use crate::room::lengths::{is_too_long, len_of};
 use crate::stay::clusters::{Planned, plan_item};
 use cf_base::{Change, Code, OutOfMemory, Usn};
-use cf_clusters::Data;
 use cf_disk::Disk;
 use cf_table::{Rows, item_of};
 use cf_volume_image::Contents;
@@ -47,13 +47,6 @@ pub(crate) fn plan_change(
     }
 }
 
-/// Whether the state would hold more clusters than there are with so many more.
-pub(crate) fn is_full(held: &Data, more: usize) -> bool
-    ensures { result ≡ nat_lt (length held.now) (how_many is_now held.now + more) }
-{
-    held.used() as u128 + more as u128 > held.clusters() as u128
-}
-
 // Whether the image would be too long after a planned change.
 fn lacks_table(contents: &Contents, change: &Change, planned: &Planned) -> bool
     requires there { row_of contents.now.rows.rows (item_of_change change.now) ≡ None → ⊥ }
@@ -78,7 +71,7 @@ pub(crate) fn refusal_of<D: Disk>(
     requires plan { (r : Row) → row_of parts.now.contents.rows.rows (item_of_change change.now) ≡ Some r → Plans change.now (pin_for change.now parts.now.contents.rows.rows) (usn_after parts.now.contents.last.epoch parts.now.contents.last.place) r planned.now.row planned.now.blocks.items }
     ensures why { (v : Volume) → At (D.state disk.now) (known_of parts.now) v → why_no_room (change.now ∷ []) v ≡ result }
     ensures fits { IfNone result ((v : Volume) → At (D.state disk.now) (known_of parts.now) v → FitsTable (put_change change.now v).items (put_change change.now v).book) }
-    ensures blocks { IfNone result (how_many is_now parts.now.held + length planned.now.blocks.items ≤ length parts.now.held) }
+    ensures blocks { IfNone result (0 < length planned.now.blocks.items → how_many is_now parts.now.held + length planned.now.blocks.items ≤ parts.now.limit) }
     ensures only { IfSome result IsFullness }
 {
     let _ = disk;
@@ -86,7 +79,7 @@ pub(crate) fn refusal_of<D: Disk>(
     if lacks_table(&parts.contents, change, planned) {
         return Some(Code::TableFull);
     }
-    if is_full(&parts.held, planned.blocks.len()) {
+    if is_full(parts, planned.blocks.len() as u128) {
         return Some(Code::Full);
     }
     None

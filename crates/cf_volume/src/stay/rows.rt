@@ -53,6 +53,7 @@ pub(crate) fn put_planned<D: Disk>(
     ensures broken { parts.new.broken ≡ parts.old.broken }
 {
     let id = item_of(change);
+    let blocks = planned.blocks.len();
     let _ = parts.contents.rows.image_len();
     note_row(
         &mut parts.then.rows,
@@ -71,5 +72,6 @@ pub(crate) fn put_planned<D: Disk>(
     )?;
     parts.contents.last.place += 1;
     parts.contents.count += 1;
+    parts.put_since = parts.put_since.saturating_add(blocks as u64);
     Ok(())
 }

@@ -44,7 +44,8 @@ const STAYS: Numbers = Numbers {
     clock: 0,
 };
 
-const WITHOUT_A_CLUSTER: [Step; 10] = [
+/// On a volume that may use two clusters.
+pub(super) const WITHOUT_A_CLUSTER: [Step; 10] = [
     Step::Do(MAKE),
     Step::Room(Edit::Write(2, 0, 8192, 1), ALL),
     Step::Room(Edit::Write(2, 0, 8193, 1), NO_BLOCKS),

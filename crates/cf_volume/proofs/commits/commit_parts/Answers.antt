@@ -31,7 +31,7 @@ returns-in-Ok-clause-sure g c = λ v at keep.
     commit_sure (g.D.Disk.state c.args.disk.now) (g.D.Disk.state c.save.new.disk) c.args.parts.now
     (record { reads_one = g.met.D.Disk.reads_one c.args.disk.now; same_size = g.met.D.Disk.same_size c.args.disk.now })
     c.requires.steady c.image_len.ensures.rises c.image_len.ensures.kept (c.can_be_written.ensures.0 c.if-not-can_be_written.false) v at keep
-    c.save.new.journal c.save.new.held c.in_ok-then.then (subst (λ (n : ItemId). NotesNothing n c.in_ok-then.then) c.next.ensures c.in_ok-then.ensures) c.in-Ok.ensures.held c.in-Ok.ensures.saved
+    c.save.new.journal c.save.new.held c.in_ok-then.then (subst (λ (n : ItemId). NotesNothing n c.in_ok-then.then) c.next.ensures c.in_ok-then.ensures) c.in-Ok.ensures.held c.used-parts.result c.used-parts.ensures c.in-Ok.ensures.saved
     c.in-Ok.ensures.keys_rise c.in-Ok.ensures.same_size c.in-Ok.ensures.durable c.in-Ok.ensures.rest
 
 pub returns-in-Ok-clause-room : goal.returns-in-Ok-clause-room
@@ -39,7 +39,7 @@ returns-in-Ok-clause-room g c = λ v at keep.
     commit_room (g.D.Disk.state c.args.disk.now) (g.D.Disk.state c.save.new.disk) c.args.parts.now
     (record { reads_one = g.met.D.Disk.reads_one c.args.disk.now; same_size = g.met.D.Disk.same_size c.args.disk.now })
     c.requires.steady c.image_len.ensures.rises c.image_len.ensures.kept (c.can_be_written.ensures.0 c.if-not-can_be_written.false) v at keep
-    c.save.new.journal c.save.new.held c.in_ok-then.then (subst (λ (n : ItemId). NotesNothing n c.in_ok-then.then) c.next.ensures c.in_ok-then.ensures) c.in-Ok.ensures.held c.in-Ok.ensures.saved
+    c.save.new.journal c.save.new.held c.in_ok-then.then (subst (λ (n : ItemId). NotesNothing n c.in_ok-then.then) c.next.ensures c.in_ok-then.ensures) c.in-Ok.ensures.held c.used-parts.result c.used-parts.ensures c.in-Ok.ensures.saved
     c.in-Ok.ensures.keys_rise c.in-Ok.ensures.same_size c.in-Ok.ensures.durable c.in-Ok.ensures.rest
 
 pub returns-in-Ok-clause-crash : goal.returns-in-Ok-clause-crash
@@ -51,7 +51,7 @@ returns-in-Ok-clause-crash g c = λ v at keep.
 pub returns-in-Ok-clause-steady : goal.returns-in-Ok-clause-steady
 returns-in-Ok-clause-steady g c =
     subst (λ (k : Known). Steady (size_of (g.D.Disk.state c.save.new.disk)) k)
-    (committed_is (known_of c.args.parts.now) c.save.new.journal c.save.new.held c.in_ok-then.then (subst (λ (n : ItemId). NotesNothing n c.in_ok-then.then) c.next.ensures c.in_ok-then.ensures) c.in-Ok.ensures.held)
+    (committed_is (known_of c.args.parts.now) c.save.new.journal c.save.new.held c.in_ok-then.then c.used-parts.result (subst (λ (n : ItemId). NotesNothing n c.in_ok-then.then) c.next.ensures c.in_ok-then.ensures) c.in-Ok.ensures.held c.used-parts.ensures)
     (committed_steady (g.D.Disk.state c.args.disk.now) (g.D.Disk.state c.save.new.disk) (known_of c.args.parts.now) c.save.new.journal c.requires.steady c.in-Ok.ensures.same_size c.in-Ok.ensures.usable)
 
 pub returns-in-Err-clause-crash : goal.returns-in-Err-clause-crash

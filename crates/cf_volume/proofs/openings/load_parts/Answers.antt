@@ -8,7 +8,7 @@ use Rattle.cf_model.specs.Formats.{Image}
 use Rattle.cf_model.specs.Numbers.{most}
 use Rattle.cf_volume_points.specs.At.{At}
 use Rattle.cf_volume_points.specs.Known.{Known}
-use Rattle.cf_volume_points.specs.Standing.{clusters_on, opened}
+use Rattle.cf_volume_points.specs.Standing.{clusters_for, opened}
 use Rattle.cf_volume.proofs.OpenedFrom.{opened_from, refused_as_one}
 use Rattle.cf_volume.proofs.Stopped.{handed_on, refused_as}
 use Rattle.cf_volume.specs.Calls.{IsRefused}
@@ -30,7 +30,7 @@ returns-in_err-found-clause-last g c = λ epoch log b st.
 
 pub returns-clause-ok : goal.returns-clause-ok
 returns-clause-ok g c = λ epoch log b st.
-    subst (λ (k : Known). At (g.D.Disk.state c.load.new.disk) k (opened (epoch + 1) log b (clusters_on (g.D.Disk.state c.args.disk.now).seen))) (sym c.parts_of.ensures.known) (c.in_ok-found.ensures.ok epoch log b st)
+    subst (λ (k : Known). At (g.D.Disk.state c.load.new.disk) k (opened (epoch + 1) log b (clusters_for (g.D.Disk.state c.args.disk.now)))) (sym c.parts_of.ensures.known) (c.in_ok-found.ensures.ok epoch log b st)
 
 pub returns-clause-more : goal.returns-clause-more
 returns-clause-more g c = λ epoch log b st. (c.in_ok-found.ensures.last epoch log b st).1 refl

@@ -1,4 +1,4 @@
-use Rattle.std.proofs.Common.{sym, ◌∙◌, inr, arith}
+use Rattle.std.proofs.Common.{sym, ◌∙◌, inr}
 use Rattle.cf_model.specs.Numbers.{usn_after}
 use Rattle.cf_table.specs.Tables.{row_of}
 use Rattle.cf_volume.proofs.CopyPut.{copy_puts}
@@ -14,12 +14,12 @@ returns-in-Some-clause-put g c = λ v change i at copy.
     let puts = copy_puts (g.D.Disk.state c.args.disk.now) (known_of c.args.parts.now) v change c.args.row source.0 i c.args.from at source.1 copy ∙ sym (c.block_count-blocks.ensures source.0 source.1) in
     inr (c.in-Some.ensures.why v change i at copy.arrives puts)
 
-pub returns-then-free-blocks-clause-put : goal.returns-then-free-blocks-clause-put
-returns-then-free-blocks-clause-put g c = λ v change i at copy.
+pub returns-then-waits_for_room-clause-put : goal.returns-then-waits_for_room-clause-put
+returns-then-waits_for_room-clause-put g c = λ v change i at copy.
     let source = some_row (row_of c.args.parts.now.contents.rows.rows c.args.from) c.requires.there in
     let puts = copy_puts (g.D.Disk.state c.args.disk.now) (known_of c.args.parts.now) v change c.args.row source.0 i c.args.from at source.1 copy ∙ sym (c.block_count-blocks.ensures source.0 source.1) in (
       c.in_default.ensures.why v change i at copy.arrives puts,
-      room_needed (g.D.Disk.state c.args.disk.now) (known_of c.args.parts.now) v change c.block_count-blocks.result at puts (omega (arith, c.if-free-blocks.true, c.free.ensures)),
+      room_needed (g.D.Disk.state c.args.disk.now) (known_of c.args.parts.now) v change c.block_count-blocks.result at puts (c.waits_for_room.ensures.waits c.if-waits_for_room.true),
     )
 
 pub returns-in-Ok-clause-put : goal.returns-in-Ok-clause-put

@@ -13,11 +13,11 @@ use Rattle.cf_volume.specs.declared.room.tallies.Tally.{Tally}
 use Rattle.cf_volume.proofs.room.changes.room_beside.Goals as goal
 
 pub returns-in-None : goal.returns-in-None
-returns-in-None g c = λ v b at fits has. absurd (subst (λ (o : Option Tally). MatchOption o ⊥ (λ t. Counts c.args.parts.now.contents (length c.args.parts.now.held) t [] c.args.list.now v)) c.in-None.is (c.in_ok-tally_of.ensures v at fits))
+returns-in-None g c = λ v b at fits has. absurd (subst (λ (o : Option Tally). MatchOption o ⊥ (λ t. Counts c.args.parts.now.contents c.args.parts.now.limit t [] c.args.list.now v)) c.in-None.is (c.in_ok-tally_of.ensures v at fits))
 
 pub returns-in_ok-full-in-Some : goal.returns-in_ok-full-in-Some
 returns-in_ok-full-in-Some g c = λ v b at fits has.
-    let done = subst (λ (o : Option Tally). MatchOption o ⊥ (λ t. Counts c.args.parts.now.contents (length c.args.parts.now.held) t [] c.args.list.now v)) c.in-Some.is (c.in_ok-tally_of.ensures v at fits) in
+    let done = subst (λ (o : Option Tally). MatchOption o ⊥ (λ t. Counts c.args.parts.now.contents c.args.parts.now.limit t [] c.args.list.now v)) c.in-Some.is (c.in_ok-tally_of.ensures v at fits) in
     let drafts = subst (λ (w : model). Drafts c.args.parts.now.contents c.in-Some.so_far.draft w) done.ends done.drafts in
     let full = c.in_ok-full-in-Some.ensures (put_changes c.args.list.now v) b drafts has in
     record {

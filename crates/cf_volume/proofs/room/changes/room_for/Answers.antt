@@ -9,11 +9,11 @@ use Rattle.cf_volume.specs.declared.room.tallies.Tally.{Tally}
 use Rattle.cf_volume.proofs.room.changes.room_for.Goals as goal
 
 pub returns-in-None : goal.returns-in-None
-returns-in-None g c = λ v at fits. absurd (subst (λ (o : Option Tally). MatchOption o ⊥ (λ t. Counts c.args.parts.now.contents (length c.args.parts.now.held) t [] c.args.list.now v)) c.in-None.is (c.in_ok-tally_of.ensures v at fits))
+returns-in-None g c = λ v at fits. absurd (subst (λ (o : Option Tally). MatchOption o ⊥ (λ t. Counts c.args.parts.now.contents c.args.parts.now.limit t [] c.args.list.now v)) c.in-None.is (c.in_ok-tally_of.ensures v at fits))
 
 pub returns-in-Some : goal.returns-in-Some
 returns-in-Some g c = λ v at fits.
-    let done = subst (λ (o : Option Tally). MatchOption o ⊥ (λ t. Counts c.args.parts.now.contents (length c.args.parts.now.held) t [] c.args.list.now v)) c.in-Some.is (c.in_ok-tally_of.ensures v at fits) in
+    let done = subst (λ (o : Option Tally). MatchOption o ⊥ (λ t. Counts c.args.parts.now.contents c.args.parts.now.limit t [] c.args.list.now v)) c.in-Some.is (c.in_ok-tally_of.ensures v at fits) in
     record {
       places = c.has_numbers.ensures ∙ none_of (passes_most c.args.parts.now.contents.last.place (length c.args.list.now)) (list_any needs_id c.args.list.now)
           ∙ ap (λ (n : ℕ). not (passes_most n (length c.args.list.now) || list_any needs_id c.args.list.now)) at.now.place;

@@ -1,4 +1,4 @@
-use Rattle.std.proofs.Common.{arith}
+use Rattle.std.proofs.Common.{◌≡◌, length, subst, arith}
 use Rattle.cf_model.specs.Numbers.{usn_after}
 use Rattle.cf_table.specs.Changing.{item_of_change}
 use Rattle.cf_table.specs.Tables.{row_of}
@@ -7,6 +7,7 @@ use Rattle.cf_volume.proofs.Planning.{fits_end}
 use Rattle.cf_volume.proofs.Puts.{found_fits, some_row}
 use Rattle.cf_volume.proofs.Stopped.{not_device}
 use Rattle.cf_volume.specs.Steady.{known_of}
+use Rattle.cf_volume.specs.Waits.{MayWait}
 use Rattle.cf_volume.proofs.WrittenBytes.{plan_writes}
 use Rattle.cf_volume.proofs.stay.items.put_stay.Goals as goal
 
@@ -18,12 +19,12 @@ put_planned-requires-clause-end g c =
     let row = some_row (row_of c.args.parts.now.contents.rows.rows (item_of_change c.args.change.now)) c.requires.there in
     fits_end c.args.change.now row.0 (found_fits c.args.change.now c.args.parts.now.contents.rows.rows row.0 c.requires.kind c.requires.fits row.1)
 
-pub returns-then-free-len-clause-put : goal.returns-then-free-len-clause-put
-returns-then-free-len-clause-put g c = λ v at.
+pub returns-then-waits_for_room-clause-put : goal.returns-then-waits_for_room-clause-put
+returns-then-waits_for_room-clause-put g c = λ v at.
     let row = some_row (row_of c.args.parts.now.contents.rows.rows (item_of_change c.args.change.now)) c.requires.there in (
       c.in_default.ensures.why v at,
       needs_room (g.D.Disk.state c.args.disk.now) (known_of c.args.parts.now) v c.args.change.now row.0 c.in_ok-planned.planned.row c.in_ok-planned.planned.blocks.items at c.requires.kind row.1 (c.in_ok-planned.ensures row.0 row.1)
-          (omega (arith, c.if-free-len.true, c.free.ensures, c.len.ensures, c.in_ok-planned.planned.blocks.ok)),
+          (subst (MayWait (known_of c.args.parts.now)) (let e : c.len.result ≡ length c.in_ok-planned.planned.blocks.items = omega (arith, c.len.ensures, c.in_ok-planned.planned.blocks.ok) in e) (c.waits_for_room.ensures.waits c.if-waits_for_room.true)),
     )
 
 pub returns-in-Ok-clause-put : goal.returns-in-Ok-clause-put
