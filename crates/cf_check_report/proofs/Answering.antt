@@ -3,6 +3,7 @@ use Rattle.std.proofs.Common.{◌≡◌, ◌⊎◌, ◌≤◌, ◌<◌, ◌+◌,
 use Rattle.std.specs.Prelude.{cond, drop}
 use Rattle.std.specs.List.{flat_map}
 use Rattle.cf_base.specs.declared.answers.Answer.{Answer}
+use Rattle.cf_base.specs.declared.events.DeviceEvent.TheVariants as device
 use Rattle.cf_base.specs.declared.events.Event.{Event}
 use Rattle.cf_base.specs.declared.events.Event.TheVariants as event
 use Rattle.cf_base.specs.declared.events.PeerEvent.{PeerEvent}
@@ -11,9 +12,9 @@ use Rattle.cf_base.specs.declared.policies.Mode.TheVariants as mode
 use Rattle.cf_check_compare.proofs.Alone.{never_fails}
 use Rattle.cf_check_compare.specs.Alone.{asks_none}
 use Rattle.cf_check_compare.specs.Passed.{is_passed, meets_peer, plainly}
-use Rattle.cf_check_judge.proofs.Following.{counts_of, line_not}
+use Rattle.cf_check_judge.proofs.Following.{line_not}
 use Rattle.cf_check_judge.specs.Judge.{first_result, is_line}
-use Rattle.cf_check_judge.specs.Settled.{HasCount, IsAt}
+use Rattle.cf_check_judge.specs.Settled.{IsAt}
 use Rattle.cf_check_model.specs.Judging.{answer_of}
 use Rattle.cf_check_model.specs.Reports.{device_line}
 use Rattle.cf_check_text.proofs.Lines.{notices_fit}
@@ -21,7 +22,7 @@ use Rattle.cf_check_text.specs.Clean.{is_clean}
 use Rattle.cf_check_traces.proofs.Accepting.{few_messages, numbered}
 use Rattle.cf_check_traces.proofs.Testing.{alone_so, meets_so, not_stopped}
 use Rattle.cf_check_traces.specs.Decided.{MeetsResult}
-use Rattle.cf_check_traces.specs.Followed.{IsNext}
+use Rattle.cf_check_traces.specs.Followed.{IsNext, ResumesAsAccepted}
 use Rattle.cf_check_traces.specs.Tests.{begins, fault_line_of_peer, is_device, meets_lines, same_flag}
 use Rattle.cf_check_ways.proofs.StepsSure.{step_count}
 use Rattle.cf_check_ways.specs.Ways.{is_fault}
@@ -77,8 +78,8 @@ alone s (event.Provider p) a t rest step h = λ peer. let z : false ≡ true = p
 
 module _ (events : List Event) (report : List ℕ) (clusters : ℕ) (short : length report < 2 ^ 31) where
   pub next_of : (done : ℕ) (e : Event) (es : List Event) (trace : List (Event × Answer)) (s : State) (rest : List ℕ) → IsAt events report clusters done (e ∷ es) trace s rest → is_line device_line (first_result rest) ≡ false → (a : Answer) (t : State) → IsStep mode.Replay s e a t → t.link.honest ≡ true
-      → is_passed e a rest ≡ true → length (text a) < 2 ^ 31 → HasCount s e a rest → IsNext events report clusters done s e a t rest
-  next_of done e es trace s rest at line a t step honest passed few has =
+      → is_passed e a rest ≡ true → length (text a) < 2 ^ 31 → (e ≡ event.Device device.Restart → ResumesAsAccepted events report clusters done a) → IsNext events report clusters done s e a t rest
+  next_of done e es trace s rest at line a t step honest passed few counts =
       let w = both (not (is_device a.shown) && is_clean a && meets_peer e a rest) (meets_lines a.notes rest) passed in
       let x = both (not (is_device a.shown) && is_clean a) (meets_peer e a rest) w.0 in
       let y = both (not (is_device a.shown)) (is_clean a) x.0 in
@@ -96,5 +97,5 @@ module _ (events : List Event) (report : List ℕ) (clusters : ℕ) (short : len
         meets = meets_so a rest w.1;
         alone = alone s e a t rest step x.1;
         result = line_not device_line (first_result rest) line;
-        counts = counts_of events report clusters (omega (arith, short)) done e es trace s rest at a t step has;
+        counts = counts;
       }

@@ -1,5 +1,5 @@
 -- What is known of the points, one answer further.
-use Rattle.std.proofs.Common.{◌≡◌, ◌≤◌, ◌<◌, ◌&&◌, ◌||◌, ℕ, Bool, true, false, cond, List, [], ◌∷◌, ◌++◌, length, drop, take, refl, sym, subst, arith, length-take}
+use Rattle.std.proofs.Common.{◌≡◌, ◌≤◌, ◌&&◌, ◌||◌, ℕ, Bool, true, false, cond, List, [], ◌∷◌, ◌++◌, length, take, refl, sym, subst, arith, length-take}
 use Rattle.std.proofs.Math.Seq.{take-length}
 use Rattle.std.specs.Prelude.{min}
 use Rattle.cf_base.specs.declared.answers.Answer.{Answer}
@@ -14,8 +14,7 @@ use Rattle.cf_base.specs.declared.events.Event.TheVariants as event
 use Rattle.cf_base.specs.declared.ids.Usn.{Usn}
 use Rattle.cf_base.specs.declared.policies.Mode.TheVariants as mode
 use Rattle.cf_check_report.specs.Points.{Known, known, known_from, next_known}
-use Rattle.cf_check_room.proofs.Heavy.{heavy_below, heavy_says}
-use Rattle.cf_check_room.specs.Rooms.{is_heavy, sure_count}
+use Rattle.cf_check_room.specs.Rooms.{sure_count}
 use Rattle.cf_check_traces.specs.Tests.{is_count, is_flush, is_flushed, is_restart, is_resumed, makes_point}
 use Rattle.cf_check_ways.proofs.PointSteps.{flush_points, flush_power, restart_opens}
 use Rattle.cf_model.proofs.FlushedLaws.{runs_hold}
@@ -24,12 +23,12 @@ use Rattle.cf_model.specs.Lawful.{IsStep}
 use Rattle.cf_model.specs.Points.{ArePoints}
 use Rattle.cf_model.specs.State.{On, Point, State}
 
-known_more : (clusters : ℕ) (k : Known) (trace : List (Event × Answer)) (p : Event × Answer) → known_from clusters k (trace ++ p ∷ []) ≡ next_known clusters (known_from clusters k trace) p
-known_more clusters k [] p = refl
-known_more clusters k (q ∷ ps) p = known_more clusters (next_known clusters k q) ps p
+known_more : (k : Known) (trace : List (Event × Answer)) (p : Event × Answer) → known_from k (trace ++ p ∷ []) ≡ next_known (known_from k trace) p
+known_more k [] p = refl
+known_more k (q ∷ ps) p = known_more (next_known k q) ps p
 
-pub known_next : (clusters : ℕ) (trace : List (Event × Answer)) (p : Event × Answer) → known clusters (trace ++ p ∷ []) ≡ next_known clusters (known clusters trace) p
-known_next clusters trace p = known_more clusters (record { log = []; point = 0; light = true }) trace p
+pub known_next : (trace : List (Event × Answer)) (p : Event × Answer) → known (trace ++ p ∷ []) ≡ next_known (known trace) p
+known_next trace p = known_more (record { log = []; point = 0 }) trace p
 
 -- what makes a point
 
@@ -100,14 +99,3 @@ pub point_before : (n k : ℕ) (ps : List Point) → AtLeast n ps → ArePoints 
 point_before n k [] least are = absurd are
 point_before n k (p ∷ []) least are = subst (λ (b : Bool). n ≤ cond b p.count 0) (sym are.0) least.0
 point_before n k (p ∷ q ∷ ps) least are = subst (λ (b : Bool). n ≤ cond b p.count (sure_count (q ∷ ps))) (sym are.0) (point_before n p.count (q ∷ ps) least.1 are.2)
-
--- a log is heavy nowhere since its end
-pub nothing_behind : (clusters n : ℕ) (log : List (Usn × Change)) → length log ≤ n → (k : ℕ) → is_heavy clusters n log k ≡ false
-nothing_behind clusters n log last k = by (is_heavy clusters n log k) refl
-  where
-    by : (b : Bool) → is_heavy clusters n log k ≡ b → b ≡ false
-    by false h = refl
-    by true h =
-        let there : n ≤ k = (heavy_says clusters n k (take k log) (drop k log) h).there in
-        let below : k < length log = heavy_below clusters n log k h in
-        absurd (omega (arith, last, there, below))

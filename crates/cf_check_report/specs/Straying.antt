@@ -7,20 +7,22 @@ use Rattle.cf_check_compare.specs.Passed.{is_passed}
 use Rattle.cf_check_judge.specs.Judge.{first_result, is_line}
 use Rattle.cf_check_judge.specs.Settled.{IsAt}
 use Rattle.cf_check_model.specs.Reports.{device_line}
+use Rattle.cf_check_report.specs.Counts.{may_part}
 use Rattle.cf_check_report.specs.Points.{known}
-use Rattle.cf_check_traces.specs.Tests.{begins, both_resume}
+use Rattle.cf_check_traces.specs.Tests.{begins}
+use Rattle.cf_check_weights.specs.Weighed.{heavy_places}
 use Rattle.cf_model.specs.Events.{is_of}
 use Rattle.cf_model.specs.Lawful.{IsStep}
 use Rattle.cf_model.specs.State.{State}
 use Rattle.cf_report.specs.Texts.{text}
 
 -- The event is a restart that resumes in a lawful answer, and the report goes on with one that resumed, but not with that answer: so with another
--- count. And a commit for room may have been made since the last point that the answers tell: the blocks that the items used there, and those into
--- which the changes since may have put bytes, passed the clusters.
+-- count. And a run with the same answers may resume that count, as far as it is known where it may have made a commit for room since the last point
+-- that the answers tell: where the blocks that the items used there, with those into which the changes since may have put bytes, pass the clusters.
 abbrev pub HasOtherCount : ℕ → Event → List (Event × Answer) → State → List ℕ → Type 0
 HasOtherCount clusters e trace s rest =
-    ((known clusters trace).light ≡ false)
-    × ((a : Answer) × (t : State) × IsStep mode.Replay s e a t × (t.link.honest ≡ true) × (both_resume e a rest ≡ true) × (begins (text a) rest ≡ false))
+    (a : Answer) × (t : State) × IsStep mode.Replay s e a t × (t.link.honest ≡ true) × (begins (text a) rest ≡ false)
+    × (may_part (heavy_places clusters (known trace).point (known trace).log) e a rest ≡ true)
 
 -- The event has a lawful answer of 2^31 bytes or more. The remote does in it what the report tells: it passes the tests that each answer
 -- passes which is given so. So it is not that of a device that failed.

@@ -29,4 +29,9 @@ pub trait Device: Sized {
     /// How many blocks of 4,096 bytes hold a byte of an item. It is asked where the volume is on.
     fn used(&self) -> u32
         ensures { (s : State) → stands self.now s → s.power ≡ On → result ≡ blocks_used s.filter.volume.items };
+
+    /// Tells the device that the next restart of the report resumes so many changes: where it may make a commit for room directly before the
+    /// change after them, it makes one. This is a hint: nothing is promised of it, but that the device stands for the same states.
+    fn aim(&mut self, changes: u64)
+        ensures { (s : State) → stands self.old s → stands self.new s };
 }

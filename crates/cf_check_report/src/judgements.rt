@@ -6,15 +6,18 @@ ghost use Rattle.cf_base.specs.declared.policies.Mode.TheVariants as mode;
 ghost use Rattle.cf_check_compare.specs.declared.comparisons.Comparison.TheVariants.{Differs};
 ghost use Rattle.cf_check_judge.specs.Judge.{first_result, is_line};
 ghost use Rattle.cf_check_model.specs.Reports.{device_line};
+ghost use Rattle.cf_check_report.specs.Counts.{may_part};
 ghost use Rattle.cf_check_report.specs.Following.{Follows, IsTaken, IsUsed, JudgedTo, judged_by};
 ghost use Rattle.cf_check_report.specs.Playing.{Plays};
 ghost use Rattle.cf_model.specs.Events.{is_of};
 
 use crate::check_errors::CheckError;
+use crate::counts::may_resume;
 use crate::devices::Device;
-use crate::weighing::{Points, makes_point, weigh};
+use crate::weighing::{makes_point, weigh};
 use cf_base::{Answer, Blob, Event, OutOfMemory, no_such_state};
 use cf_check_compare::{Comparison, both_resume, compare, fails_next, is_foreign, tellings};
+use cf_check_weights::Room;
 use cf_report::text;
 use std::alloc::Global;
 
@@ -29,12 +32,11 @@ pub(crate) enum Judged {
     Open,
 }
 
-/// A device that is followed beside a report, what is known of its points, and its clusters.
+/// A device that is followed beside a report, and what its log may have needed since the last known point.
 #[derive(Drop)]
 pub(crate) struct Judge<D> {
     pub(crate) device: D,
-    pub(crate) points: Points,
-    pub(crate) clusters: u32,
+    pub(crate) room: Room,
     /// The lines of its last answer where the report does not go on with them, else nothing.
     pub(crate) expected: Blob,
 }
@@ -63,21 +65,27 @@ fn judgement_of(compared: Comparison, parts: bool) -> Result<Judged, CheckError>
     }
 }
 
+// Whether a run with the same answers may resume another count than the answer, that of the report.
+fn may_part(room: &Room, event: &Event, answer: &Answer, rest: &[u8]) -> bool
+    ensures { result ≡ may_part room.now.heavy.items event.now answer.now rest.now }
+{
+    both_resume(event, answer, rest) && may_resume(room.heavy(), rest, &answer.shown)
+}
+
 // Weighs an answer, and holds it against the report. Keeps its lines where the report does not go on with them.
 fn take(
-    points: &mut Points,
+    room: &mut Room,
     expected: &mut Blob,
     alloc: Global,
-    clusters: u32,
     event: &Event,
     answer: &Answer,
     used: u32,
     rest: &[u8],
 ) -> Result<Judged, CheckError>
-    ensures { IsTaken clusters event.now answer.now used rest.now points.old points.new result }
+    ensures { IsTaken event.now answer.now used rest.now room.old room.new result }
 {
-    let parts = !points.light && both_resume(event, answer, rest);
-    weigh(points, clusters, event, answer, used)?;
+    let parts = may_part(room, event, answer, rest);
+    weigh(room, event, answer, used)?;
     let compared = compare(alloc, event, answer, rest)?;
     if let Comparison::Differs = compared {
         *expected = text(alloc, answer)?;
@@ -95,8 +103,7 @@ impl<D: Device> Judge<D> {
     ) -> (Judge<D>, Result<Answer, OutOfMemory>)
         requires { is_of mode.Replay event.now ≡ true }
         ensures plays { Plays D.stands event.now self.device result.1 result.0.device }
-        ensures points { result.0.points ≡ self.points }
-        ensures clusters { result.0.clusters ≡ self.clusters }
+        ensures room { result.0.room ≡ self.room }
     {
         let fails = match tellings(alloc, event, rest) {
             Ok(fails) => fails,
@@ -104,15 +111,13 @@ impl<D: Device> Judge<D> {
         };
         let Judge {
             device,
-            points,
-            clusters,
+            room,
             expected,
         } = self;
         let (device, told) = device.step(alloc, event, fails);
         let left = Judge {
             device,
-            points,
-            clusters,
+            room,
             expected,
         };
         (left, told)
@@ -146,10 +151,9 @@ impl<D: Device> Judge<D> {
             Ok(answer) => {
                 let used = left.used(event, &answer);
                 let judged = take(
-                    &mut left.points,
+                    &mut left.room,
                     &mut left.expected,
                     alloc,
-                    left.clusters,
                     event,
                     &answer,
                     used,
@@ -180,6 +184,15 @@ impl<D: Device> Judge<D> {
         }
         self.follow(alloc, event, rest)
     }
+
+    /// Tells the device what the next restart of the report resumes, if there is one.
+    pub(crate) fn aim(&mut self, changes: Option<u64>)
+        ensures { (events es : List Done) (report rest : List ℕ) (clusters done : ℕ) → Follows D.stands events report clusters done es rest self.old → Follows D.stands events report clusters done es rest self.new }
+    {
+        if let Some(changes) = changes {
+            self.device.aim(changes);
+        }
+    }
 }
 
 impl<D: Drop> Judge<D> {
@@ -187,12 +200,11 @@ impl<D: Drop> Judge<D> {
     pub(crate) fn into_expected(self) -> Blob {
         let Judge {
             device,
-            points,
-            clusters: _,
+            room,
             expected,
         } = self;
         drop(device);
-        drop(points);
+        drop(room);
         expected
     }
 }

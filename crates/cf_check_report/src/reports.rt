@@ -14,7 +14,7 @@ use crate::check_errors::CheckError;
 use crate::devices::Device;
 use crate::differences::{Difference, Judgement};
 use crate::judgements::{Judge, Judged};
-use crate::weighing::Points;
+use crate::restarts::{Restarts, resumes};
 use cf_base::{Blob, Event};
 use cf_check_compare::after;
 use cf_check_model::Verdict;
@@ -79,13 +79,11 @@ pub fn judge<D: Device + Drop>(
 {
     let mut judge = Judge {
         device,
-        points: Points {
-            room: Room::new(alloc),
-            light: true,
-        },
-        clusters,
+        room: Room::new(alloc, clusters),
         expected: Blob::from_vec(Vec::new(alloc)),
     };
+    let mut restarts = Restarts::new(events, report);
+    judge.aim(restarts.next_count());
     let mut rest = report;
     let mut done: u32 = 0;
     for event in events {
@@ -93,6 +91,9 @@ pub fn judge<D: Device + Drop>(
         judge = next;
         match judged {
             Ok(Judged::GoesOn(len)) => {
+                if resumes(event, rest) {
+                    judge.aim(restarts.next_count());
+                }
                 rest = after(rest, len);
                 done += 1;
             }

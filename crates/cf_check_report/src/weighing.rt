@@ -12,19 +12,10 @@ use cf_base::{Answer, Call, Event, Notice, OutOfMemory, Shown};
 use cf_check_compare::{is_restart, is_resumed};
 use cf_check_weights::Room;
 
-/// What is known of the points that a restart may open.
-#[derive(Drop)]
-pub(crate) struct Points {
-    /// What the changes since the last known point may have needed.
-    pub(crate) room: Room,
-    /// Whether no commit for room may have been made since then.
-    pub(crate) light: bool,
-}
-
 // Adds the change that a line tells, if it tells one.
 #[tactic(auto, using(crate::proofs::Changes::nothing_more))]
 fn add_told(room: &mut Room, notice: &Notice) -> Result<(), OutOfMemory>
-    ensures { (n : ℕ) (log : List (Usn × Logged)) → IsTallied room.old n log → OnOk result (IsTallied room.new n (log ++ change_in notice.now)) }
+    ensures { (clusters n : ℕ) (log : List (Usn × Logged)) → IsTallied clusters room.old n log → OnOk result (IsTallied clusters room.new n (log ++ change_in notice.now)) }
 {
     match notice {
         Notice::Change { change, .. } => room.add(change),
@@ -34,7 +25,7 @@ fn add_told(room: &mut Room, notice: &Notice) -> Result<(), OutOfMemory>
 
 // Adds the changes that the lines tell.
 fn add_all(room: &mut Room, notices: &[Notice]) -> Result<(), OutOfMemory>
-    ensures { (n : ℕ) (log : List (Usn × Logged)) → IsTallied room.old n log → OnOk result (IsTallied room.new n (log ++ changes_in notices.now)) }
+    ensures { (clusters n : ℕ) (log : List (Usn × Logged)) → IsTallied clusters room.old n log → OnOk result (IsTallied clusters room.new n (log ++ changes_in notices.now)) }
 {
     for notice in notices {
         add_told(room, notice)?;
@@ -44,7 +35,7 @@ fn add_all(room: &mut Room, notices: &[Notice]) -> Result<(), OutOfMemory>
 
 // Keeps the changes that a restart kept. Where it kept some, a point is to be told.
 fn resume(room: &mut Room, shown: &Shown)
-    ensures { (n : ℕ) (log : List (Usn × Logged)) → IsTallied room.old n log → IsKept room.new n shown.now (resumed_with shown.now log) }
+    ensures { (clusters n : ℕ) (log : List (Usn × Logged)) → IsTallied clusters room.old n log → IsKept clusters room.new n shown.now (resumed_with shown.now log) }
 {
     if let Shown::Resumed { count, .. } = shown {
         room.keep(*count);
@@ -79,7 +70,7 @@ pub(crate) fn makes_point(event: &Event, answer: &Answer) -> bool
 
 // The changes that stand after an answer.
 fn stand(room: &mut Room, event: &Event, answer: &Answer) -> Result<(), OutOfMemory>
-    ensures { (n : ℕ) (log : List (Usn × Logged)) → IsTallied room.old n log → OnOk result (IsStanding room.new n event.now answer.now (after_answer log event.now answer.now)) }
+    ensures { (clusters n : ℕ) (log : List (Usn × Logged)) → IsTallied clusters room.old n log → OnOk result (IsStanding clusters room.new n event.now answer.now (after_answer log event.now answer.now)) }
 {
     if is_restart(event) {
         resume(room, &answer.shown);
@@ -90,20 +81,16 @@ fn stand(room: &mut Room, event: &Event, answer: &Answer) -> Result<(), OutOfMem
 
 /// What is known after an answer. Where it makes a point, so many blocks are used there.
 pub(crate) fn weigh(
-    points: &mut Points,
-    clusters: u32,
+    room: &mut Room,
     event: &Event,
     answer: &Answer,
     used: u32,
 ) -> Result<(), OutOfMemory>
-    ensures { OnOk result (Tells clusters event.now answer.now used points.old points.new) }
+    ensures { OnOk result (Tells event.now answer.now used room.old room.new) }
 {
-    stand(&mut points.room, event, answer)?;
+    stand(room, event, answer)?;
     if makes_point(event, answer) {
-        points.room.point(used);
-        points.light = true;
-    } else {
-        points.light = points.light && points.room.fits(clusters);
+        room.point(used);
     }
     Ok(())
 }

@@ -1,5 +1,5 @@
 -- What the changes of a log cost bounds what it weighs, where each item that is made has a greater number than all before it.
-use Rattle.std.proofs.Common.{◌≡◌, ◌≤◌, ◌<◌, ◌+◌, ◌-◌, ◌/◌, ◌^◌, ◌&&◌, not, ℕ, zero, suc, Bool, true, false, cond, drop, filter, List, [], ◌∷◌, ◌++◌, length, take, max, min, refl, sym, ap, subst, arith, append-nil}
+use Rattle.std.proofs.Common.{◌≡◌, ◌≤◌, ◌<◌, ◌+◌, ◌-◌, ◌/◌, ◌&&◌, not, ℕ, zero, suc, Bool, true, false, cond, filter, List, [], ◌∷◌, ◌++◌, length, max, min, refl, sym, ap, subst, arith, append-nil}
 use Rattle.std.specs.Prelude.{Option, Some, None, sum_by, ◌==◌}
 use Rattle.std.proofs.lemmas.Bool.{eqb-true, ltb-true}
 use Rattle.std.proofs.lemmas.List.Sums.{sum_by-append, sum_by-cons}
@@ -9,21 +9,20 @@ use Rattle.cf_base.specs.declared.ids.ItemId.{ItemId}
 use Rattle.cf_base.specs.declared.ids.Usn.{Usn}
 use Rattle.cf_base.specs.declared.items.Pin.{Pin}
 use Rattle.cf_base.specs.declared.items.Pin.TheVariants as pin
-use Rattle.cf_check_room.specs.Rooms.{load_from, load_since}
 use Rattle.cf_check_weights.proofs.Blocks.{counting_length, held_after, none_here}
 use Rattle.cf_check_weights.specs.Costs.{cost_of, made_by}
-use Rattle.cf_check_weights.specs.Weighed.{greater, last_weight, makes_above, most_weight, next_weight, nothing, since_of, weight_at, weight_of, weights_from}
+use Rattle.cf_check_weights.specs.Weighed.{greater, last_weight, makes_above, next_weight, weights_from}
 use Rattle.cf_check_weights.specs.declared.weights.Weight.{Weight}
 use Rattle.cf_model.specs.Blocks.{blocks_held, blocks_of, blocks_used, held_of, lacks_in, puts_into, size_at}
 use Rattle.cf_model.specs.Effects.{changed, copied, copies, effect, made, size_made, without}
-use Rattle.cf_model.specs.Items.{Item, item_of, pin_of, root}
-use Rattle.cf_model.specs.Logs.{after_changes, items_of}
+use Rattle.cf_model.specs.Items.{Item, item_of, pin_of}
+use Rattle.cf_model.specs.Logs.{after_changes}
 use Rattle.cf_model.specs.Words.{part}
 use Rattle.cf_table.specs.Applied.{item_effect}
 use Rattle.cf_volume_blocks.specs.Bytes.{puts_in}
 
 -- the items stand in order of their numbers, from low on, and none is above the greatest
-abbrev IsRising : ℕ → List Item → ℕ → Type 0
+abbrev pub IsRising : ℕ → List Item → ℕ → Type 0
 IsRising low [] g = Unit {0}
 IsRising low (i ∷ is) g = (low ≤ i.id.0) × (i.id.0 ≤ g) × IsRising (i.id.0 + 1) is g
 
@@ -127,7 +126,7 @@ held_is : (items : List Item) (key : ItemId) (i : Item) → item_of items key �
 held_is items key i e = ap (λ (o : Option Item). part (λ x. x.held) [] o) e
 
 -- a change uses no more blocks than it puts bytes into
-uses_more : (items : List Item) (g : ℕ) (c : Change) (n : Usn) → IsRising 0 items g → blocks_used (effect items c n) ≤ blocks_used items + length (puts_into items c)
+pub uses_more : (items : List Item) (g : ℕ) (c : Change) (n : Usn) → IsRising 0 items g → blocks_used (effect items c n) ≤ blocks_used items + length (puts_into items c)
 uses_more items g (change.Make item parent name kind size identity) n r =
     let new : Item = made item parent name kind size identity (pin_of items parent) n in
     let e : sum_by used (items ++ new ∷ []) ≡ sum_by used items + sum_by used (new ∷ []) = sum_by-append used items (new ∷ []) in
@@ -180,7 +179,7 @@ fewer {X} p (x ∷ xs) = by (p x) (fewer p xs)
     by true h = omega (arith, h)
     by false h = omega (arith, h)
 
-puts_few : (items : List Item) (c : Change) (w : ℕ) → blocks_used items ≤ w → length (puts_into items c) ≤ cost_of w c
+pub puts_few : (items : List Item) (c : Change) (w : ℕ) → blocks_used items ≤ w → length (puts_into items c) ≤ cost_of w c
 puts_few items (change.Write item at bytes) w le =
     let from : ℕ = min at (size_at items item) in
     let h : length (blocks_of from (at + length bytes - from)) ≤ (from + (at + length bytes - from) + 4095) / 4096 - from / 4096 = span_blocks from (at + length bytes - from) in
@@ -197,7 +196,7 @@ puts_few items (change.Copy item from parent name) w le = let h = sum_has from i
 puts_few items _ w le = omega arith
 
 -- the items stay in order
-stays_rising : (items : List Item) (g : ℕ) (c : Change) (n : Usn) → IsRising 0 items g → makes_above g c ≡ true → IsRising 0 (effect items c n) (greater g (made_by c))
+pub stays_rising : (items : List Item) (g : ℕ) (c : Change) (n : Usn) → IsRising 0 items g → makes_above g c ≡ true → IsRising 0 (effect items c n) (greater g (made_by c))
 stays_rising items g (change.Make item parent name kind size identity) n r above =
     let lt : g < item.0 = ltb-true g item.0 above in
     let e : max item.0 g ≡ item.0 = omega (arith, lt) in
@@ -229,55 +228,19 @@ stays_rising items g (change.Keep item on) n r above = rising_changed 0 item _ i
 
 -- a log
 
-both : (a b : Bool) → (a && b) ≡ true → (a ≡ true) × (b ≡ true)
+pub both : (a b : Bool) → (a && b) ≡ true → (a ≡ true) × (b ≡ true)
 both true b e = (refl, e)
 both false b e = let z : false ≡ true = e in absurd cc
 
--- sums do not fall
-least : (w : Weight) (log : List (Usn × Change)) → w.total ≤ most_weight → w.total ≤ (last_weight w (weights_from w log)).total
-least w [] le = omega arith
-least w (c ∷ cs) le = let h = least (next_weight w c.1) cs (omega arith) in omega (arith, h, le)
-
--- where the last is below the greatest, so was the first
-below : (w : Weight) (log : List (Usn × Change)) → (last_weight w (weights_from w log)).total < most_weight → w.total ≤ most_weight
-below w [] few = omega (arith, few)
-below w (c ∷ cs) few = let h = least (next_weight w c.1) cs (omega arith) in omega (arith, h, few)
-
 -- what rises in the end rose before
-rose : (w : Weight) (log : List (Usn × Change)) → (last_weight w (weights_from w log)).rises ≡ true → w.rises ≡ true
+pub rose : (w : Weight) (log : List (Usn × Change)) → (last_weight w (weights_from w log)).rises ≡ true → w.rises ≡ true
 rose w [] h = h
 rose w (c ∷ cs) h = (both w.rises (makes_above w.greatest c.1) (rose (next_weight w c.1) cs h)).0
 
--- the load is never more than the sum
-loads : (items : List Item) (w : Weight) (load : ℕ) (log : List (Usn × Change)) → IsRising 0 items w.greatest → (last_weight w (weights_from w log)).rises ≡ true → blocks_used items ≤ w.total → load ≤ w.total → w.total ≤ most_weight → (last_weight w (weights_from w log)).total < most_weight
-    → load_from items load log ≤ (last_weight w (weights_from w log)).total
-loads items w load [] r rises used le small few = le
-loads items w load (c ∷ cs) r rises used le small few =
-    let next : Weight = next_weight w c.1 in
-    let above : makes_above w.greatest c.1 ≡ true = (both w.rises (makes_above w.greatest c.1) (rose next cs rises)).1 in
-    let last : ℕ = (last_weight next (weights_from next cs)).total in
-    let low : next.total ≤ last = least next cs (omega arith) in
-    let some : last < most_weight = few in
-    let puts : length (puts_into items c.1) ≤ cost_of w.total c.1 = puts_few items c.1 w.total used in
-    let sum : next.total ≡ w.total + cost_of w.total c.1 = omega (arith, low, some) in
-    let more : blocks_used (effect items c.1 c.0) ≤ blocks_used items + length (puts_into items c.1) = uses_more items w.greatest c.1 c.0 r in
-    let used' : blocks_used (effect items c.1 c.0) ≤ next.total = omega (arith, more, puts, sum, used) in
-    loads (effect items c.1 c.0) next (max (load + length (puts_into items c.1)) (blocks_used (effect items c.1 c.0))) cs (stays_rising items w.greatest c.1 c.0 r above) rises used' (omega (arith, le, puts, sum, used')) (omega arith) few
-
 -- the items of a log whose numbers rose stand in order
-risen : (items : List Item) (w : Weight) (log : List (Usn × Change)) → IsRising 0 items w.greatest → (last_weight w (weights_from w log)).rises ≡ true → IsRising 0 (after_changes items log) (last_weight w (weights_from w log)).greatest
+pub risen : (items : List Item) (w : Weight) (log : List (Usn × Change)) → IsRising 0 items w.greatest → (last_weight w (weights_from w log)).rises ≡ true → IsRising 0 (after_changes items log) (last_weight w (weights_from w log)).greatest
 risen items w [] r rises = r
 risen items w (c ∷ cs) r rises =
     let next : Weight = next_weight w c.1 in
     let above : makes_above w.greatest c.1 ≡ true = (both w.rises (makes_above w.greatest c.1) (rose next cs rises)).1 in
     risen (effect items c.1 c.0) next cs (stays_rising items w.greatest c.1 c.0 r above) rises
-
--- where what its items used then and what its changes cost since do not pass the clusters, the load of a log does not
-pub light : (clusters n : ℕ) (log : List (Usn × Change)) → clusters < 2 ^ 32 → (since_of n log).rises ≡ true → (since_of n log).total ≤ clusters → load_since n log ≤ clusters
-light clusters n log small rises le =
-    let items : List Item = items_of (take n log) in
-    let rises_then : (weight_of (take n log)).rises ≡ true = rose (weight_at n log) (drop n log) rises in
-    let r : IsRising 0 items (weight_of (take n log)).greatest = risen (root ∷ []) nothing (take n log) (omega arith, omega arith, record {}) rises_then in
-    let few : (since_of n log).total < most_weight = omega (arith, le, small) in
-    let h : load_since n log ≤ (since_of n log).total = loads items (weight_at n log) (blocks_used items) (drop n log) r rises (omega arith) (omega arith) (below (weight_at n log) (drop n log) few) few in
-    omega (arith, h, le)

@@ -1,13 +1,11 @@
 -- The weights of a log that becomes longer or shorter.
 use Rattle.std.proofs.lemmas.List.{drop-append-le, drop_all, take-append-le}
-use Rattle.std.proofs.Common.{◌+◌, drop, length-append, ◌≡◌, ◌≤◌, ◌<◌, ◌^◌, ◌-◌, ◌&&◌, ℕ, zero, suc, Bool, true, false, List, [], ◌∷◌, ◌++◌, length, take, refl, sym, ◌∙◌, ap, arith, take_all}
-use Rattle.std.specs.Prelude.{Some, None, nat_le, slice_get}
-use Rattle.std.proofs.lemmas.Bool.{leb-true}
-use Rattle.cf_check_room.specs.Rooms.{load_since}
-use Rattle.cf_check_weights.proofs.Bounds.{light}
+use Rattle.std.proofs.Common.{◌+◌, drop, length-append, ◌≡◌, ◌≤◌, ◌-◌, ℕ, zero, suc, Bool, cond, List, [], ◌∷◌, ◌++◌, length, take, refl, sym, ◌∙◌, ap, arith, take_all}
+use Rattle.std.specs.Prelude.{Some, None, slice_get}
+use Rattle.cf_check_weights.proofs.Places.{heavy_more}
 use Rattle.cf_base.specs.declared.changes.Change.{Change}
 use Rattle.cf_base.specs.declared.ids.Usn.{Usn}
-use Rattle.cf_check_weights.specs.Weighed.{IsTallied, IsWeighed, is_light, last_weight, next_weight, nothing, since_of, used_at, weight_at, weight_of, weights_from}
+use Rattle.cf_check_weights.specs.Weighed.{IsTallied, IsWeighed, heavy_from, heavy_places, last_weight, may_pass, next_weight, nothing, since_of, used_at, weight_at, weight_of, weights_from}
 use Rattle.cf_check_weights.specs.declared.rooms.Room.{Room}
 use Rattle.cf_check_weights.specs.declared.weights.Weight.{Weight}
 use Rattle.cf_model.specs.Blocks.{blocks_used}
@@ -48,10 +46,6 @@ last_is w (v ∷ u ∷ ws) x e = last_is v (u ∷ ws) x (e ∙ ap (λ (k : ℕ).
 
 -- since a point
 
-both : (a b : Bool) → (a && b) ≡ true → (a ≡ true) × (b ≡ true)
-both true b e = (refl, e)
-both false b e = let z : false ≡ true = e in absurd cc
-
 last_more : (w x : Weight) (ws : List Weight) → last_weight w (ws ++ x ∷ []) ≡ x
 last_more w x [] = refl
 last_more w x (v ∷ ws) = last_more v x ws
@@ -66,32 +60,30 @@ since_more n log m c le =
     weight_at' : List (Usn × Change) → Weight
     weight_at' xs = record (weight_of xs) { total = blocks_used (items_of xs) }
 
-pub tallied_more : (old new : Room) (n : ℕ) (log : List (Usn × Change)) (m : Usn) (c : Change) → IsTallied old n log → IsWeighed new.weights (log ++ (m, c) ∷ []) → new.since ≡ next_weight old.since c → IsTallied new n (log ++ (m, c) ∷ [])
-tallied_more old new n log m c h weights since = record {
-  weights = weights;
-  there = let le : n ≤ length log = h.there in let k : length (log ++ (m, c) ∷ []) ≡ length log + 1 = length-append log ((m, c) ∷ []) in omega (arith, le, k);
-  since = since ∙ ap (λ (w : Weight). next_weight w c) h.since ∙ sym (since_more n log m c h.there);
-}
+pub tallied_more : (clusters : ℕ) (old new : Room) (n : ℕ) (log : List (Usn × Change)) (m : Usn) (c : Change) (place : ℕ) (is : Bool) → IsTallied clusters old n log → place ≡ length old.weights → is ≡ may_pass old.clusters old.since c
+    → new.heavy.items ≡ old.heavy.items ++ cond is (place ∷ []) [] → IsWeighed new.weights (log ++ (m, c) ∷ []) → new.since ≡ next_weight old.since c → new.clusters ≡ old.clusters → IsTallied clusters new n (log ++ (m, c) ∷ [])
+tallied_more clusters old new n log m c place is h place_is told heavy weights since same =
+    let long : place ≡ length log = place_is ∙ ap (λ (ws : List Weight). length ws) h.weights ∙ weights_length nothing log in
+    let may : is ≡ may_pass clusters (since_of n log) c = told ∙ ap (λ (k : ℕ). may_pass k old.since c) h.clusters_are ∙ ap (λ (w : Weight). may_pass clusters w c) h.since in record {
+      clusters_are = same ∙ h.clusters_are;
+      weights = weights;
+      there = let le : n ≤ length log = h.there in let k : length (log ++ (m, c) ∷ []) ≡ length log + 1 = length-append log ((m, c) ∷ []) in omega (arith, le, k);
+      since = since ∙ ap (λ (w : Weight). next_weight w c) h.since ∙ sym (since_more n log m c h.there);
+      heavy = heavy ∙ ap (λ (xs : List ℕ). xs ++ cond is (place ∷ []) []) h.heavy ∙ ap (λ (k : ℕ). heavy_places clusters n log ++ cond is (k ∷ []) []) long
+          ∙ ap (λ (b : Bool). heavy_places clusters n log ++ cond b (length log ∷ []) []) may ∙ sym (heavy_more clusters n log m c h.there);
+    }
 
-pub tallied_at : (new : Room) (log : List (Usn × Change)) (last : Weight) (used : ℕ) → IsWeighed new.weights log → last ≡ last_weight nothing new.weights → used ≡ blocks_used (items_of log) → new.since ≡ record last { total = used } → IsTallied new (length log) log
-tallied_at new log last used weights last_is' used_is since =
+pub tallied_at : (clusters : ℕ) (new : Room) (log : List (Usn × Change)) (last : Weight) (used : ℕ) → new.clusters ≡ clusters → IsWeighed new.weights log → last ≡ last_weight nothing new.weights → used ≡ blocks_used (items_of log) → new.since ≡ record last { total = used } → new.heavy.items ≡ [] → IsTallied clusters new (length log) log
+tallied_at clusters new log last used clusters_are weights last_is' used_is since heavy =
     let all : take (length log) log ≡ log = take_all (length log) log (omega arith) in
     let none : drop (length log) log ≡ [] = drop_all (length log) log (omega arith) in
     let there : used_at (length log) log ≡ used = ap (λ (xs : List (Usn × Change)). blocks_used (items_of xs)) all ∙ sym used_is in record {
+      clusters_are = clusters_are;
       weights = weights;
       there = omega arith;
       since = since
           ∙ ap (λ (w : Weight). record w { total = used }) (last_is' ∙ ap (last_weight nothing) weights ∙ ap (λ (xs : List (Usn × Change)). weight_of xs) (sym all))
           ∙ ap (λ (k : ℕ). record (weight_of (take (length log) log)) { total = k }) (sym there)
           ∙ ap (λ (xs : List (Usn × Change)). last_weight (weight_at (length log) log) (weights_from (weight_at (length log) log) xs)) (sym none);
+      heavy = heavy ∙ ap (heavy_from clusters (length log) (weight_at (length log) log)) (sym none);
     }
-
--- whether it is light
-
-pub light_is : (r : Room) (n clusters : ℕ) (log : List (Usn × Change)) (fits : Bool) → IsTallied r n log → fits ≡ (r.since.rises && nat_le r.since.total clusters) → fits ≡ is_light clusters n log
-light_is r n clusters log fits h told = told ∙ ap (λ (w : Weight). w.rises && nat_le w.total clusters) h.since
-
-pub loads_less : (clusters n : ℕ) (log : List (Usn × Change)) → clusters < 2 ^ 32 → is_light clusters n log ≡ true → load_since n log ≤ clusters
-loads_less clusters n log small e =
-    let x = both (since_of n log).rises (nat_le (since_of n log).total clusters) e in
-    light clusters n log small x.0 (leb-true (since_of n log).total clusters x.1)

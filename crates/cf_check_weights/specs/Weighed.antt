@@ -1,5 +1,6 @@
 -- What is known of a log after each of its changes.
-use Rattle.std.specs.Prelude.{◌≡◌, ◌≤◌, ℕ, drop, length, take, ◌+◌, ◌-◌, ◌^◌, Bool, true, List, [], ◌∷◌, Option, Some, None, max, min, nat_le, nat_lt, ◌&&◌}
+use Rattle.std.specs.Prelude.{◌≡◌, ◌≤◌, ℕ, suc, cond, drop, length, not, take, ◌+◌, ◌-◌, ◌^◌, Bool, true, List, [], ◌∷◌, ◌++◌, Option, Some, None, max, min, nat_lt, ◌&&◌, ◌||◌, ◌==◌}
+use Rattle.std.specs.List.{list_any}
 use Rattle.cf_base.specs.declared.changes.Change.{Change}
 use Rattle.cf_base.specs.declared.ids.Usn.{Usn}
 use Rattle.cf_check_weights.specs.Costs.{cost_of, made_by}
@@ -57,13 +58,29 @@ weight_at n log = record (weight_of (take n log)) { total = used_at n log }
 abbrev pub since_of : ℕ → List (Usn × Change) → Weight
 since_of n log = last_weight (weight_at n log) (weights_from (weight_at n log) (drop n log))
 
--- The blocks that the items used then, and those into which the changes since may have put bytes, do not pass the clusters; and each item that
--- was made had a greater number than all before it.
-abbrev pub is_light : ℕ → ℕ → List (Usn × Change) → Bool
-is_light clusters n log = (since_of n log).rises && nat_le (since_of n log).total clusters
+-- Where a log may be heavy: the changes directly before which a commit for room may be made
+
+-- With the blocks into which it may put bytes the change passes the clusters, and it may put some. So it is too where an item has no greater number
+-- than all before it, since nothing is known then of what is used.
+abbrev pub may_pass : ℕ → Weight → Change → Bool
+may_pass clusters w c = not (next_weight w c).rises || (nat_lt 0 (cost_of w.total c) && nat_lt clusters (next_weight w c).total)
+
+-- the places of such changes in order, where the first change is at place k
+abbrev pub heavy_from : ℕ → ℕ → Weight → List (Usn × Change) → List ℕ
+heavy_from clusters k w [] = []
+heavy_from clusters k w (c ∷ cs) = cond (may_pass clusters w c.1) (k ∷ []) [] ++ heavy_from clusters (suc k) (next_weight w c.1) cs
+
+-- since the first n changes
+abbrev pub heavy_places : ℕ → ℕ → List (Usn × Change) → List ℕ
+heavy_places clusters n log = heavy_from clusters n (weight_at n log) (drop n log)
+
+abbrev pub is_among : ℕ → List ℕ → Bool
+is_among k places = list_any (λ p. p == k) places
 
 -- this is known of the log, and since its first n changes
-pub record IsTallied (r : Room) (n : ℕ) (log : List (Usn × Change)) : Type 0 where
+pub record IsTallied (clusters : ℕ) (r : Room) (n : ℕ) (log : List (Usn × Change)) : Type 0 where
+  pub clusters_are : r.clusters ≡ clusters
   pub weights : IsWeighed r.weights log
   pub there : n ≤ length log
   pub since : r.since ≡ since_of n log
+  pub heavy : r.heavy.items ≡ heavy_places clusters n log

@@ -1,6 +1,6 @@
 //! The weight of a log, and of each of its fronts.
 
-ghost use Rattle.std.specs.Prelude.{◌≡◌, ◌++◌, ◌∷◌, [], List, OnOk, take};
+ghost use Rattle.std.specs.Prelude.{◌≡◌, ◌++◌, ◌∷◌, [], List, OnOk, length, take};
 ghost use Rattle.cf_base.specs.declared.changes.Change.{Change as Logged};
 ghost use Rattle.cf_base.specs.declared.ids.Usn.{Usn};
 ghost use Rattle.cf_check_weights.specs.Weighed.{IsWeighed, last_weight, makes_above, next_weight, nothing};
@@ -82,6 +82,13 @@ impl Weights {
                 rises: true,
             },
         }
+    }
+
+    /// How many changes the log has.
+    pub(crate) fn count(&self) -> u64
+        ensures { result ≡ length self.now }
+    {
+        self.weights.len() as u64
     }
 
     /// Adds a change. Fails where there is no memory for it; then it is not added.

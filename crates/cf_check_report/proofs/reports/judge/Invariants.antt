@@ -1,4 +1,4 @@
-use Rattle.std.proofs.Common.{◌≡◌, ◌≤◌, drop}
+use Rattle.std.proofs.Common.{◌≡◌, drop}
 use Rattle.cf_check_report.specs.Following.{Follows}
 use Rattle.cf_check_report.proofs.reports.judge.Given as goal
 

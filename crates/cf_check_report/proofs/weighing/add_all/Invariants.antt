@@ -6,4 +6,4 @@ use Rattle.cf_model_headline.specs.Reports.{changes_in}
 use Rattle.cf_check_report.proofs.weighing.add_all.Given as goal
 
 abbrev pub invariant-loop-notice : goal.invariant-loop-notice
-invariant-loop-notice l = (n : ℕ) (log : List (Usn × Change)) → IsTallied l.fn.room n log → IsTallied l.room n (log ++ changes_in (take l.notice-index l.notices))
+invariant-loop-notice l = (clusters n : ℕ) (log : List (Usn × Change)) → IsTallied clusters l.fn.room n log → IsTallied clusters l.room n (log ++ changes_in (take l.notice-index l.notices))
