@@ -11,7 +11,7 @@ ghost use Rattle.cf_model.specs.Events.{is_of};
 ghost use Rattle.cf_model.specs.State.{start};
 ghost use Rattle.cf_model.specs.Store.{empty_remote};
 ghost use Rattle.cf_volume.specs.Calls.{IsMemory};
-ghost use Rattle.cf_volume_points.specs.Standing.{clusters_on};
+ghost use Rattle.cf_volume_points.specs.Standing.{clusters_for};
 
 use crate::told_remotes::ToldRemote;
 use cf_base::limits::BLOCK_BYTES;
@@ -25,20 +25,26 @@ use cf_pair_lane::Away;
 use cf_state::used_blocks;
 use std::alloc::Global;
 
+/// The most clusters that a volume has.
+const MOST_CLUSTERS: u32 = 65_536;
+
 /// A device in memory with its engine and its remote.
 #[derive(Drop)]
 pub struct MemDevice {
     pub(crate) acting: Acting<MemDisk, SyncActor<ToldRemote>>,
 }
 
-// A disk for so many clusters, of which no call fails.
+// A disk of which a volume may use so many clusters, and no call fails. It has three times as many, if it can: so a volume on it needs no
+// commit for room but where it is told to make one.
 fn new_disk(alloc: Global, clusters: u32) -> Result<MemDisk, OutOfMemory>
     requires { clusters ≤ 65536 }
     ensures fit { IfOk result (λ d. IsFitSize (size_of (mem_state d))) }
-    ensures clusters { IfOk result (λ d. clusters_on (mem_state d).seen ≡ clusters) }
+    ensures clusters { IfOk result (λ d. clusters_for (mem_state d) ≡ clusters) }
     ensures calm { IfOk result (λ d. (mem_state d).armed ≡ Some None) }
 {
-    MemDisk::new(alloc, LEAST_SIZE + u64::from(clusters) * BLOCK_BYTES)
+    let room = (3 * clusters).min(MOST_CLUSTERS);
+    let disk = MemDisk::new(alloc, LEAST_SIZE + u64::from(room) * BLOCK_BYTES)?;
+    Ok(disk.with_quota(u64::from(clusters)))
 }
 
 // Why no device was made. A disk that is not armed does not fail.
@@ -125,5 +131,9 @@ impl Device for MemDevice {
     // The work grows with the items, and it is asked at points alone.
     fn used(&self) -> u32 {
         used_blocks(&self.acting)
+    }
+
+    fn aim(&mut self, changes: u64) {
+        self.acting.aim(changes);
     }
 }
