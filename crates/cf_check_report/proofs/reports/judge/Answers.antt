@@ -51,7 +51,7 @@ loop-event-preserved g c =
     let at = subst (λ (es : List Event). Follows g.D.Device.stands all c.args.report.now c.args.clusters i es c.loop-event.rest.now c.loop-event.judge) (rest_is all i c.event-item.result c.event-item.is c.loop-event-test.true) c.loop-event.invariant.0 in
     let on
     = judged_on g.D.Device.stands all c.args.report.now c.args.clusters i c.in-Ok-GoesOn.len (drop (i + 1) all) c.loop-event.rest.now c.after-rest.result.now c.judge-next.result.0 c.judge-next.result.1 c.in-Ok-GoesOn.field-0 c.in-Ok-GoesOn.is (rw c.in-Ok-GoesOn.is at c.in-Ok-GoesOn.field-0-is) c.after-rest.ensures
-        (c.judge-next.ensures all (drop (i + 1) all) c.args.report.now c.args.clusters i c.requires.report at) in
+    (c.judge-next.ensures all (drop (i + 1) all) c.args.report.now c.args.clusters i c.requires.report at) in
     let done : c.loop-event.done + 1 ≡ i + 1 = omega (arith, c.loop-event.invariant.1) in
     elim c.if-resumes.branch [
       | then-resumes w ↦ rw w.judge-is (w.aim-then-resumes.ensures all (drop (i + 1) all) c.args.report.now c.after-rest.result.now c.args.clusters (i + 1) on, done)
