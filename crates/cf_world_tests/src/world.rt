@@ -9,13 +9,12 @@ mod remotes;
 mod sinks;
 mod stops;
 
-use cf_base::Status;
-use cf_disk::MemDisk;
+use cf_base::{OutOfMemory, Status};
+use cf_disk::{Disk, MemDisk};
 use cf_io::{MemSink, MemSource};
-use cf_remote::StoreRemote;
-use cf_world::run;
+use cf_remote::{FlakyRemote, StoreRemote};
+use cf_world::{Finish, run};
 use std::alloc::Global;
-use std::test::Fail;
 
 /// The device of the program: 15,616 clusters.
 const DEVICE: u64 = 67_108_864;
@@ -26,39 +25,108 @@ const SMALL: u64 = 3_145_728 + 64 * 4096;
 /// The most bytes that a run writes here, but for long reports.
 const ROOM: usize = 20_000;
 
-/// Runs a script, and gives the status and what was written. The calls of source and sink that fail are counted from 1.
-fn ran(
-    alloc: Global,
-    word: &str,
-    script: &[u8],
-    source_fails: &[u64],
-    sink_fails: &[u64],
-    disk: MemDisk,
-) -> Result<(Status, MemSink), Fail> {
-    ran_with(alloc, word, script, source_fails, sink_fails, disk, ROOM)
+/// What a run is given. The calls that fail are counted from 1.
+#[derive(Clone, Copy)]
+struct Run<'a> {
+    words: &'a [&'a str],
+    bytes: &'a [u8],
+    /// Which calls of source, sink and remote fail.
+    source_fails: &'a [u64],
+    sink_fails: &'a [u64],
+    remote_fails: &'a [u64],
+    /// How large the device is, and how many of its calls pass before one fails, if one does.
+    size: u64,
+    calls: Option<u32>,
 }
 
-/// The same with room for so many bytes in the sink.
-fn ran_with(
-    alloc: Global,
-    word: &str,
-    bytes: &[u8],
-    source_fails: &[u64],
-    sink_fails: &[u64],
-    disk: MemDisk,
-    room: usize,
-) -> Result<(Status, MemSink), Fail> {
-    let words = vec![in alloc; String::from_str(alloc, word)?]?;
-    let mut source = MemSource::new(alloc, bytes, source_fails)?;
-    let mut sink = MemSink::new(alloc, room, sink_fails)?;
-    let remote = StoreRemote::new(alloc)?;
-    let finish = run(alloc, &words, &mut source, &mut sink, disk, remote);
-    Ok((finish.status, sink))
+const FILTER: &[&str] = &["filter"];
+
+const REPLAY: &[&str] = &["replay"];
+
+const NONE: &[u64] = &[];
+
+/// A command where nothing fails.
+fn command<'a>(words: &'a [&'a str], bytes: &'a [u8]) -> Run<'a> {
+    Run {
+        words,
+        bytes,
+        source_fails: NONE,
+        sink_fails: NONE,
+        remote_fails: NONE,
+        size: SMALL,
+        calls: None,
+    }
 }
 
-/// Whether a script of `filter` is done on a device of this size, with this report.
-fn reports(alloc: Global, size: u64, script: &[u8], report: &[u8]) -> Result<bool, Fail> {
-    let disk = MemDisk::new(alloc, size)?;
-    let (status, sink) = ran(alloc, "filter", script, &[], &[], disk)?;
-    Ok(status == Status::Done && sink.bytes() == report)
+fn filter<'a>(script: &'a [u8]) -> Run<'a> {
+    command(FILTER, script)
+}
+
+fn replay<'a>(script: &'a [u8]) -> Run<'a> {
+    command(REPLAY, script)
+}
+
+/// How a run finishes.
+type Finished = Finish<MemDisk, FlakyRemote>;
+
+fn run_on(
+    alloc: Global,
+    words: &[String],
+    source: &mut MemSource,
+    sink: &mut MemSink,
+    given: &Run,
+) -> Result<Finished, OutOfMemory> {
+    let inner = StoreRemote::new(alloc)?;
+    let remote = FlakyRemote::new(alloc, inner, given.remote_fails)?;
+    let mut disk = match MemDisk::new(alloc, given.size) {
+        Ok(disk) => disk,
+        Err(error) => {
+            drop(remote);
+            return Err(error);
+        }
+    };
+    if let Some(calls) = given.calls {
+        disk.arm(calls);
+    }
+    Ok(run(alloc, words, source, sink, disk, remote))
+}
+
+fn run_with(
+    alloc: Global,
+    words: &mut Vec<String>,
+    sink: &mut MemSink,
+    given: &Run,
+) -> Result<Finished, OutOfMemory> {
+    for word in given.words {
+        words.push(String::from_str(alloc, word)?)?;
+    }
+    let mut source = MemSource::new(alloc, given.bytes, given.source_fails)?;
+    let finished = run_on(alloc, words.as_slice(), &mut source, sink, given);
+    drop(source);
+    finished
+}
+
+/// Does a run, which writes to this sink.
+fn finish(alloc: Global, given: &Run, sink: &mut MemSink) -> Result<Finished, OutOfMemory> {
+    let mut words = Vec::new(alloc);
+    let finished = run_with(alloc, &mut words, sink, given);
+    drop(words);
+    finished
+}
+
+/// How a run ends that writes to this sink.
+fn status_of(alloc: Global, given: &Run, sink: &mut MemSink) -> Result<Status, OutOfMemory> {
+    let finished = finish(alloc, given, sink)?;
+    let status = finished.status;
+    drop(finished);
+    Ok(status)
+}
+
+/// Whether a run ends so, and has written exactly this.
+fn ends(alloc: Global, given: &Run, status: Status, written: &[u8]) -> Result<bool, OutOfMemory> {
+    let mut sink = MemSink::new(alloc, ROOM, given.sink_fails)?;
+    let ended = status_of(alloc, given, &mut sink);
+    let same = sink.bytes() == written;
+    drop(sink);
+    Ok(ended? == status && same)
 }

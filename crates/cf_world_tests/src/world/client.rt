@@ -20,71 +20,85 @@ const POLICY: Policy = Policy {
     auto: false,
 };
 
-/// A new folder on a new disk, and the link to a new remote.
-fn folder(alloc: Global) -> Result<Option<SyncEngine<MemDisk, StoreRemote>>, OutOfMemory> {
-    let disk = MemDisk::new(alloc, SMALL)?;
-    if !Journal::is_fit_size(disk.size()) {
-        drop(disk);
-        return Ok(None);
-    }
-    let link = Link::new(alloc, StoreRemote::new(alloc)?);
-    Ok(SyncEngine::format(alloc, disk, POLICY, link).ok())
+const HANDLE: Handle = Handle(Key {
+    epoch: 1,
+    number: 1,
+});
+
+type Folder = SyncEngine<MemDisk, StoreRemote>;
+
+fn is_done(answer: Result<Answer, OutOfMemory>) -> Result<bool, OutOfMemory> {
+    let answer = answer?;
+    let is_refused = matches!(&answer.shown, Shown::Refused(_));
+    drop(answer);
+    Ok(!is_refused)
 }
 
-fn is_done(answer: &Answer) -> bool {
-    !matches!(answer.shown, Shown::Refused(_))
+fn leaves_nothing(answer: Result<Answer, OutOfMemory>) -> Result<bool, OutOfMemory> {
+    let answer = answer?;
+    let is_so = matches!(&answer.shown, Shown::Count(0));
+    drop(answer);
+    Ok(is_so)
 }
 
 /// A file is made, opened and written.
-fn writes(
-    alloc: Global,
-    folder: &mut SyncEngine<MemDisk, StoreRemote>,
-) -> Result<bool, OutOfMemory> {
+fn writes(alloc: Global, folder: &mut Folder) -> Result<bool, OutOfMemory> {
     let path = Text::from_str(alloc, "/note")?;
-    let made = folder.app(Call::Create { path })?;
+    let made = is_done(folder.app(Call::Create { path }))?;
     let path = Text::from_str(alloc, "/note")?;
-    let opened = folder.app(Call::Open { path })?;
-    let handle = Handle(Key {
-        epoch: 1,
-        number: 1,
-    });
+    let opened = is_done(folder.app(Call::Open { path }))?;
     let bytes = Blob::from_slice(alloc, b"hello")?;
-    let written = folder.app(Call::Write {
-        handle,
+    let written = is_done(folder.app(Call::Write {
+        handle: HANDLE,
         offset: 0,
         bytes,
-    })?;
-    Ok(is_done(&made) && is_done(&opened) && is_done(&written))
+    }))?;
+    Ok(made && opened && written)
 }
 
 /// It is uploaded by a sync, which leaves nothing to do, and made durable.
-fn uploads(folder: &mut SyncEngine<MemDisk, StoreRemote>) -> Result<bool, OutOfMemory> {
-    let handle = Handle(Key {
-        epoch: 1,
-        number: 1,
-    });
-    let closed = folder.app(Call::Close { handle })?;
-    let synced = folder.sync()?;
-    let flushed = folder.app(Call::Flush)?;
-    Ok(is_done(&closed) && matches!(synced.shown, Shown::Count(0)) && is_done(&flushed))
+fn uploads(folder: &mut Folder) -> Result<bool, OutOfMemory> {
+    let closed = is_done(folder.app(Call::Close { handle: HANDLE }))?;
+    let synced = leaves_nothing(folder.sync())?;
+    let flushed = is_done(folder.app(Call::Flush))?;
+    Ok(closed && synced && flushed)
 }
 
 /// Whether both is done in a new folder.
-fn serves(alloc: Global) -> Result<bool, OutOfMemory> {
-    match folder(alloc)? {
-        Some(mut folder) => {
+fn serves(alloc: Global, disk: MemDisk, link: Link<StoreRemote>) -> Result<bool, OutOfMemory> {
+    if !Journal::is_fit_size(disk.size()) {
+        drop(disk);
+        drop(link);
+        return Ok(false);
+    }
+    match SyncEngine::format(alloc, disk, POLICY, link) {
+        Ok(mut folder) => {
             let written = writes(alloc, &mut folder);
             let uploaded = uploads(&mut folder);
             drop(folder);
             Ok(written? && uploaded?)
         }
-        None => Ok(false),
+        Err((disk, link, _)) => {
+            drop(disk);
+            drop(link);
+            Ok(false)
+        }
+    }
+}
+
+fn serves_on_a_new_disk(alloc: Global) -> Result<bool, OutOfMemory> {
+    let remote = StoreRemote::new(alloc)?;
+    match MemDisk::new(alloc, SMALL) {
+        Ok(disk) => serves(alloc, disk, Link::new(alloc, remote)),
+        Err(error) => {
+            drop(remote);
+            Err(error)
+        }
     }
 }
 
 #[test]
 fn a_client_writes_a_file_and_uploads_it(rt: HostRuntime) -> Result<(), Fail> {
-    let served = serves(rt.alloc())?;
-    assert!(rt; served);
+    assert!(rt; serves_on_a_new_disk(rt.alloc())?);
     Ok(())
 }

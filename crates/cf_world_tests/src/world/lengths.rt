@@ -1,32 +1,23 @@
 //! Scripts and reports that are too long.
 
-use super::{DEVICE, ROOM, SMALL, ran};
-use cf_base::Status;
-use cf_disk::MemDisk;
-use cf_io::{MemSink, MemSource};
-use cf_remote::StoreRemote;
-use cf_world::run;
+use super::{DEVICE, ROOM, Run, ends, filter, status_of};
+use cf_base::{OutOfMemory, Status};
+use cf_io::MemSink;
 use std::alloc::Global;
 use std::test::Fail;
 
-/// How a script of so many bytes, all in a comment, ends; nothing is written.
-fn commented(alloc: Global, len: usize) -> Result<Option<Status>, Fail> {
+/// Whether a script of so many bytes, all in a comment, ends so; nothing is written.
+fn comment_ends(alloc: Global, len: usize, status: Status) -> Result<bool, OutOfMemory> {
     let script = vec![in alloc; b'#'; len]?;
-    let disk = MemDisk::new(alloc, SMALL)?;
-    let (status, sink) = ran(alloc, "filter", &script, &[], &[], disk)?;
-    Ok(if sink.bytes().is_empty() {
-        Some(status)
-    } else {
-        None
-    })
+    let ended = ends(alloc, &filter(&script), status, b"");
+    drop(script);
+    ended
 }
 
 #[test]
 fn a_script_of_one_byte_too_many(rt: HostRuntime) -> Result<(), Fail> {
-    let longest = commented(rt.alloc(), 16_777_216)?;
-    assert_eq!(rt; longest, Some(Status::Done));
-    let longer = commented(rt.alloc(), 16_777_217)?;
-    assert_eq!(rt; longer, Some(Status::TooLong));
+    assert!(rt; comment_ends(rt.alloc(), 16_777_216, Status::Done)?);
+    assert!(rt; comment_ends(rt.alloc(), 16_777_217, Status::TooLong)?);
     Ok(())
 }
 
@@ -51,20 +42,20 @@ fn is_one_read(report: &[u8]) -> bool {
 }
 
 /// Two reads of 16,777,216 bytes make a report that is too long: all texts but that of the second are written.
-fn reads_twice(alloc: Global) -> Result<(Status, bool), Fail> {
-    let words = vec![in alloc; String::from_str(alloc, "filter")?]?;
-    let mut source = MemSource::new(alloc, TWO_WHOLE_READS, &[])?;
+fn reads_once(alloc: Global) -> Result<bool, OutOfMemory> {
+    let run = Run {
+        size: DEVICE,
+        ..filter(TWO_WHOLE_READS)
+    };
     let mut sink = MemSink::new(alloc, DIGITS + ROOM, &[])?;
-    let disk = MemDisk::new(alloc, DEVICE)?;
-    let remote = StoreRemote::new(alloc)?;
-    let finish = run(alloc, &words, &mut source, &mut sink, disk, remote);
-    Ok((finish.status, is_one_read(sink.bytes())))
+    let status = status_of(alloc, &run, &mut sink);
+    let is_one = is_one_read(sink.bytes());
+    drop(sink);
+    Ok(status? == Status::TooLong && is_one)
 }
 
 #[test]
 fn a_report_of_one_read_too_many(rt: HostRuntime) -> Result<(), Fail> {
-    let (status, is_one) = reads_twice(rt.alloc())?;
-    assert_eq!(rt; status, Status::TooLong);
-    assert!(rt; is_one);
+    assert!(rt; reads_once(rt.alloc())?);
     Ok(())
 }

@@ -1,8 +1,8 @@
 //! Devices put into format 2, and bytes that are no device.
 
-use super::ran_with;
-use cf_base::Status;
-use cf_disk::MemDisk;
+use super::{Run, command, ends, status_of};
+use cf_base::{OutOfMemory, Status};
+use cf_io::MemSink;
 use std::alloc::Global;
 use std::test::Fail;
 
@@ -40,7 +40,7 @@ const SLOT: [u8; 28] = [
 /// The front of its image: the format, and epoch 2.
 const IMAGE: [u8; 5] = [2, 0, 0, 0, 2];
 
-fn device(alloc: Global, len: usize) -> Result<Vec<u8>, Fail> {
+fn device(alloc: Global, len: usize) -> Result<Vec<u8>, OutOfMemory> {
     let mut bytes = vec![in alloc; 0u8; len]?;
     for (place, byte) in FIELDS {
         if place < bytes.len() {
@@ -50,13 +50,14 @@ fn device(alloc: Global, len: usize) -> Result<Vec<u8>, Fail> {
     Ok(bytes)
 }
 
-/// How the migration of these bytes ends on a device of the least size, and what is written.
-fn migrated(alloc: Global, bytes: &[u8], sink_fails: &[u64]) -> Result<(Status, Vec<u8>), Fail> {
-    let disk = MemDisk::new(alloc, LEAST as u64)?;
-    let (status, sink) = ran_with(alloc, "migrate", bytes, &[], sink_fails, disk, LEAST)?;
-    let written = Vec::from_slice(alloc, sink.bytes())?;
-    drop(sink);
-    Ok((status, written))
+const MIGRATE: &[&str] = &["migrate"];
+
+/// The migration of these bytes on a device of the least size.
+fn migration<'a>(bytes: &'a [u8]) -> Run<'a> {
+    Run {
+        size: LEAST as u64,
+        ..command(MIGRATE, bytes)
+    }
 }
 
 /// Whether these bytes stand at a place.
@@ -64,31 +65,43 @@ fn has(bytes: &[u8], at: usize, part: &[u8]) -> bool {
     at <= bytes.len() && part.len() <= bytes.len() - at && &bytes[at..at + part.len()] == part
 }
 
+/// Whether the migration of these bytes writes a device of format 2.
+fn writes(alloc: Global, bytes: &[u8]) -> Result<bool, OutOfMemory> {
+    let mut sink = MemSink::new(alloc, LEAST, &[])?;
+    let status = status_of(alloc, &migration(bytes), &mut sink);
+    let written = sink.bytes();
+    let is_so = written.len() == LEAST
+        && has(written, 1_572_864, &SLOT)
+        && has(written, 1_576_960, &IMAGE);
+    drop(sink);
+    Ok(status? == Status::Done && is_so)
+}
+
+fn is_migrated(alloc: Global) -> Result<bool, OutOfMemory> {
+    let bytes = device(alloc, LEAST)?;
+    let written = writes(alloc, &bytes);
+    drop(bytes);
+    written
+}
+
 #[test]
 fn a_device_of_format_1_is_written_in_format_2(rt: HostRuntime) -> Result<(), Fail> {
-    let bytes = device(rt.alloc(), LEAST)?;
-    let (status, written) = migrated(rt.alloc(), &bytes, &[])?;
-    assert_eq!(rt; status, Status::Done);
-    assert_eq!(rt; written.len(), LEAST);
-    assert!(rt; has(&written, 1_572_864, &SLOT));
-    assert!(rt; has(&written, 1_576_960, &IMAGE));
+    assert!(rt; is_migrated(rt.alloc())?);
     Ok(())
 }
 
-/// How bytes end of which nothing is to be written.
-fn ends(alloc: Global, len: usize) -> Result<Option<Status>, Fail> {
+/// Whether nothing is written of so many bytes, as they are no device.
+fn is_none(alloc: Global, len: usize) -> Result<bool, OutOfMemory> {
     let bytes = device(alloc, len)?;
-    let (status, written) = migrated(alloc, &bytes, &[])?;
+    let ended = ends(alloc, &migration(&bytes), Status::BadImage, b"");
     drop(bytes);
-    let is_empty = written.is_empty();
-    drop(written);
-    Ok(if is_empty { Some(status) } else { None })
+    ended
 }
 
 #[test]
 fn other_lengths_are_no_device(rt: HostRuntime) -> Result<(), Fail> {
     for len in [0, LEAST - 1, LEAST + 1] {
-        assert_eq!(rt; ends(rt.alloc(), len)?, Some(Status::BadImage));
+        assert!(rt; is_none(rt.alloc(), len)?);
     }
     Ok(())
 }

@@ -1,7 +1,7 @@
 //! What an engine opens: a volume that an engine may have left, and no other.
 
 use super::SMALL;
-use cf_base::{CallError, Code, Hydration, Identity, OutOfMemory, Policy, Population, Sequence};
+use cf_base::{CallError, Code, Hydration, Identity, Policy, Population, Sequence};
 use cf_disk::{Disk, MemDisk};
 use cf_engine::SyncEngine;
 use cf_filter::Filter;
@@ -49,13 +49,19 @@ enum Left {
     NoAnchor,
 }
 
-fn volume(alloc: Global) -> Result<Option<Filter<MemDisk>>, OutOfMemory> {
+fn volume(alloc: Global) -> Result<Filter<MemDisk>, CallError> {
     let disk = MemDisk::new(alloc, SMALL)?;
     if !Journal::is_fit_size(disk.size()) {
         drop(disk);
-        return Ok(None);
+        return Err(CallError::No(Code::NotAVolume));
     }
-    Ok(Filter::format(alloc, disk, POLICY).ok())
+    match Filter::format(alloc, disk, POLICY) {
+        Ok(filter) => Ok(filter),
+        Err((disk, error)) => {
+            drop(disk);
+            Err(error)
+        }
+    }
 }
 
 fn place(alloc: Global, filter: &mut Filter<MemDisk>, identity: &[u8]) -> Result<(), CallError> {
@@ -87,19 +93,28 @@ fn fill(alloc: Global, filter: &mut Filter<MemDisk>, what: Left) -> Result<(), C
     }
 }
 
+fn fill_and_flush(
+    alloc: Global,
+    filter: &mut Filter<MemDisk>,
+    what: Left,
+) -> Result<(), CallError> {
+    fill(alloc, filter, what)?;
+    filter.flush()?;
+    Ok(())
+}
+
 // The disk of a volume with this on it, made durable.
-fn disk_with(alloc: Global, what: Left) -> Result<Option<MemDisk>, CallError> {
-    let Some(mut filter) = volume(alloc)? else {
-        return Ok(None);
-    };
-    let filled = fill(alloc, &mut filter, what);
-    let flushed = filter.flush();
+fn disk_with(alloc: Global, what: Left) -> Result<MemDisk, CallError> {
+    let mut filter = volume(alloc)?;
+    let filled = fill_and_flush(alloc, &mut filter, what);
     let disk = filter.into_disk();
-    if filled.is_err() || flushed.is_err() {
-        drop(disk);
-        return Ok(None);
+    match filled {
+        Ok(()) => Ok(disk),
+        Err(error) => {
+            drop(disk);
+            Err(error)
+        }
     }
-    Ok(Some(disk))
 }
 
 // Whether an engine opens the volume on the disk; nothing where it is refused for another cause than that it is none.
@@ -127,29 +142,29 @@ fn opens(alloc: Global, disk: MemDisk, link: Link<StoreRemote>) -> Option<bool> 
 }
 
 fn is_opened(alloc: Global, what: Left) -> Result<Option<bool>, CallError> {
-    let remote = StoreRemote::new(alloc)?;
-    let link = Link::new(alloc, remote);
-    match disk_with(alloc, what) {
-        Ok(Some(disk)) => Ok(opens(alloc, disk, link)),
-        Ok(None) => {
-            drop(link);
-            Ok(None)
-        }
-        Err(error) => {
-            drop(link);
-            Err(error)
+    let disk = disk_with(alloc, what)?;
+    match StoreRemote::new(alloc) {
+        Ok(remote) => Ok(opens(alloc, disk, Link::new(alloc, remote))),
+        Err(_) => {
+            drop(disk);
+            Err(CallError::OutOfMemory)
         }
     }
 }
 
+const CASES: [(Left, bool); 6] = [
+    (Left::Nothing, true),
+    (Left::Ours, true),
+    (Left::Other, false),
+    (Left::Unknown, false),
+    (Left::NoItem, false),
+    (Left::NoAnchor, false),
+];
+
 #[test]
 fn an_engine_opens_what_an_engine_leaves(rt: HostRuntime) -> Result<(), Fail> {
-    let alloc = rt.alloc();
-    assert!(rt; is_opened(alloc, Left::Nothing)? == Some(true));
-    assert!(rt; is_opened(alloc, Left::Ours)? == Some(true));
-    assert!(rt; is_opened(alloc, Left::Other)? == Some(false));
-    assert!(rt; is_opened(alloc, Left::Unknown)? == Some(false));
-    assert!(rt; is_opened(alloc, Left::NoItem)? == Some(false));
-    assert!(rt; is_opened(alloc, Left::NoAnchor)? == Some(false));
+    for (what, opens) in CASES {
+        assert!(rt; is_opened(rt.alloc(), what)? == Some(opens));
+    }
     Ok(())
 }

@@ -1,13 +1,12 @@
 //! The disk that a run leaves whose sink fails.
 
-use super::{ROOM, SMALL};
-use cf_base::{Choice, Status};
+use super::{ROOM, filter, finish};
+use cf_base::{Choice, OutOfMemory, Status};
 use cf_disk::{Disk, MemDisk};
-use cf_io::{MemSink, MemSource};
+use cf_io::MemSink;
 use cf_journal::Journal;
-use cf_remote::StoreRemote;
 use cf_volume::Volume;
-use cf_world::run;
+use cf_world::Finish;
 use std::alloc::Global;
 use std::test::Fail;
 
@@ -22,42 +21,48 @@ const NOT_BEGUN: &[u8] =
 fn standing(alloc: Global, mut disk: MemDisk, choice: Choice) -> Option<u64> {
     disk.power(choice);
     if !Journal::is_fit_size(disk.size()) {
+        drop(disk);
         return None;
     }
     match Volume::open(alloc, disk) {
-        Ok(volume) => Some(volume.count()),
-        Err(_) => None,
+        Ok(volume) => {
+            let count = volume.count();
+            drop(volume);
+            Some(count)
+        }
+        Err((disk, _)) => {
+            drop(disk);
+            None
+        }
     }
 }
 
-/// The disk that a run leaves whose first call of the sink fails.
-fn left(alloc: Global, script: &[u8]) -> Result<Option<MemDisk>, Fail> {
-    let words = vec![in alloc; String::from_str(alloc, "filter")?]?;
-    let mut source = MemSource::new(alloc, script, &[])?;
+/// How many changes stand after a power cut on the disk that a run leaves whose first call of the sink fails.
+fn opened(alloc: Global, script: &[u8], choice: Choice) -> Result<Option<u64>, OutOfMemory> {
     let mut sink = MemSink::new(alloc, ROOM, &[1])?;
-    let disk = MemDisk::new(alloc, SMALL)?;
-    let remote = StoreRemote::new(alloc)?;
-    let finish = run(alloc, &words, &mut source, &mut sink, disk, remote);
-    if finish.status != Status::SinkFault {
-        return Ok(None);
-    }
-    Ok(Some(finish.disk))
-}
-
-/// How many changes stand on that disk after a power cut.
-fn opened(alloc: Global, script: &[u8], choice: Choice) -> Result<Option<u64>, Fail> {
-    match left(alloc, script)? {
-        Some(disk) => Ok(standing(alloc, disk, choice)),
-        None => Ok(None),
-    }
+    let finished = finish(alloc, &filter(script), &mut sink);
+    drop(sink);
+    let Finish {
+        status,
+        disk,
+        remote,
+        explanation,
+    } = finished?;
+    drop(remote);
+    drop(explanation);
+    let changes = standing(alloc, disk, choice);
+    Ok(if status == Status::SinkFault {
+        changes
+    } else {
+        None
+    })
 }
 
 #[test]
 fn what_was_flushed_stands_where_the_sink_fails(rt: HostRuntime) -> Result<(), Fail> {
     for script in [FLUSHED, NOT_BEGUN] {
         for choice in [Choice::Keep, Choice::Drop, Choice::Mix(1)] {
-            let changes = opened(rt.alloc(), script, choice)?;
-            assert_eq!(rt; changes, Some(2));
+            assert!(rt; opened(rt.alloc(), script, choice)? == Some(2));
         }
     }
     Ok(())
