@@ -50,19 +50,6 @@ fn answer(
     done
 }
 
-// What the engine does where it is asked this, with a remote of nothing.
-fn answered(alloc: Global, kind: AskKind, item: ItemId) -> Result<Recorder, OutOfMemory> {
-    let rows = Rows::new(alloc)?;
-    let mut port = Recorder::new(alloc, rows);
-    match answer(alloc, kind, item, &mut port) {
-        Ok(()) => Ok(port),
-        Err(error) => {
-            drop(port);
-            Err(error)
-        }
-    }
-}
-
 fn is_message(kept: Option<&Kept>, number: u32) -> bool {
     match kept {
         Some(Kept::Note(Notice::Message(sent))) => sent.message == number && !sent.lost,
@@ -77,48 +64,52 @@ fn is_consent(kept: Option<&Kept>) -> bool {
     }
 }
 
-// Whether a request and its reply have their lines, and nothing else was done.
-fn are_lines(acts: &[Kept]) -> bool {
-    acts.len() == 2 && is_message(acts.get(0), 1) && is_message(acts.get(1), 2)
+/// All that the engine does.
+#[derive(Clone, Copy)]
+enum Acts {
+    Nothing,
+    Consent,
+    /// A request and its reply have their lines.
+    Lines,
 }
 
-fn consents(alloc: Global) -> Result<bool, OutOfMemory> {
-    let port = answered(alloc, AskKind::Dehydrate, ROOT)?;
-    let is_so = port.acts().len() == 1 && is_consent(port.acts().get(0));
-    drop(port);
-    Ok(is_so)
+fn are(acts: &[Kept], wanted: Acts) -> bool {
+    match wanted {
+        Acts::Nothing => acts.is_empty(),
+        Acts::Consent => acts.len() == 1 && is_consent(acts.get(0)),
+        Acts::Lines => {
+            acts.len() == 2 && is_message(acts.get(0), 1) && is_message(acts.get(1), 2)
+        }
+    }
 }
 
-fn does_nothing(alloc: Global, kind: AskKind) -> Result<bool, OutOfMemory> {
-    let port = answered(alloc, kind, NO_ITEM)?;
-    let is_so = port.acts().is_empty();
+// Whether the engine does this where it is asked, with a remote of nothing.
+fn does(alloc: Global, kind: AskKind, item: ItemId, wanted: Acts) -> Result<bool, OutOfMemory> {
+    let rows = Rows::new(alloc)?;
+    let mut port = Recorder::new(alloc, rows);
+    let done = answer(alloc, kind, item, &mut port);
+    let is_so = are(port.acts(), wanted);
     drop(port);
-    Ok(is_so)
-}
-
-fn has_lines_alone(alloc: Global, kind: AskKind) -> Result<bool, OutOfMemory> {
-    let port = answered(alloc, kind, ROOT)?;
-    let is_so = are_lines(port.acts());
-    drop(port);
+    done?;
     Ok(is_so)
 }
 
 #[test]
 fn a_dehydration_is_consented_to(rt: HostRuntime) -> Result<(), TestFail> {
-    assert!(rt; consents(rt.alloc())?);
+    assert!(rt; does(rt.alloc(), AskKind::Dehydrate, ROOT, Acts::Consent)?);
     Ok(())
 }
 
 #[test]
 fn nothing_is_sent_about_an_item_that_is_gone(rt: HostRuntime) -> Result<(), TestFail> {
-    assert!(rt; does_nothing(rt.alloc(), AskKind::Fetch)?);
-    assert!(rt; does_nothing(rt.alloc(), AskKind::List)?);
+    assert!(rt; does(rt.alloc(), AskKind::Fetch, NO_ITEM, Acts::Nothing)?);
+    assert!(rt; does(rt.alloc(), AskKind::List, NO_ITEM, Acts::Nothing)?);
     Ok(())
 }
 
 #[test]
 fn a_reply_to_an_ask_that_is_dead_has_its_line_alone(rt: HostRuntime) -> Result<(), TestFail> {
-    assert!(rt; has_lines_alone(rt.alloc(), AskKind::Fetch)?);
-    assert!(rt; has_lines_alone(rt.alloc(), AskKind::List)?);
+    assert!(rt; does(rt.alloc(), AskKind::Fetch, ROOT, Acts::Lines)?);
+    assert!(rt; does(rt.alloc(), AskKind::List, ROOT, Acts::Lines)?);
     Ok(())
 }

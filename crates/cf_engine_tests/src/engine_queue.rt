@@ -105,12 +105,12 @@ fn a_queue(rt: HostRuntime) -> Result<(), Fail> {
     Ok(())
 }
 
+const BAD: [(&[u8], &[u8]); 4] = [(b"", b""), (b"x", b""), (b"c", &[1]), (b"cc", &CURSOR)];
+
 #[test]
 fn bad_records(rt: HostRuntime) -> Result<(), Fail> {
-    let alloc = rt.alloc();
-    assert!(rt; is_refused(alloc, b"", b"")?);
-    assert!(rt; is_refused(alloc, b"x", b"")?);
-    assert!(rt; is_refused(alloc, b"c", &[1])?);
-    assert!(rt; is_refused(alloc, b"cc", &CURSOR)?);
+    for (key, value) in BAD {
+        assert!(rt; is_refused(rt.alloc(), key, value)?);
+    }
     Ok(())
 }

@@ -1,4 +1,5 @@
-//! Tests of messages, the remote, the link and the parts of an engine.
+//! Tests of messages, the remote, the link and the parts of an engine. What comes of a feed's entries, of events of another
+//! device and of messages in turn, scripts show.
 #![tactic(auto)]
 
 #[cfg(test)]
@@ -11,8 +12,6 @@ mod engine_provider;
 mod engine_queue;
 #[cfg(test)]
 mod link;
-#[cfg(test)]
-mod message_numbers;
 #[cfg(test)]
 mod remote;
 #[cfg(test)]

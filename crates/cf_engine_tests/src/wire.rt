@@ -21,11 +21,11 @@ const FETCH: [u8; 33] = [
     5,
 ];
 
-pub(crate) const BYTES: [u8; 22] = [
+const BYTES: [u8; 22] = [
     67, 0, 0, 0, 1, 0, 0, 0, 1, 0, 0, 0, 0, 0, 0, 0, 5, 104, 101, 108, 108, 111,
 ];
 
-pub(crate) const SETTLE: [u8; 9] = [8, 0, 0, 0, 1, 0, 0, 0, 1];
+const SETTLE: [u8; 9] = [8, 0, 0, 0, 1, 0, 0, 0, 1];
 
 fn request_fail(alloc: Global, bytes: &[u8]) -> Option<WireError> {
     let read = read_request(alloc, bytes);
