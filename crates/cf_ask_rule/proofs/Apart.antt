@@ -90,7 +90,7 @@ two_owners item key b own (x ∷ xs) l on h t = one (same_key x.ask.key key) ref
 
 -- some block
 
-some_in : (w : ℕ → Bool) (xs : List ℕ) → list_any w xs ≡ true → (b : ℕ) × (w b ≡ true) × (has_block xs b ≡ true)
+pub some_in : (w : ℕ → Bool) (xs : List ℕ) → list_any w xs ≡ true → (b : ℕ) × (w b ≡ true) × (has_block xs b ≡ true)
 some_in w [] t = let z : false ≡ true = t in cc
 some_in w (x ∷ xs) t = elim (either (w x) (list_any w xs) t) [
   | inl e ↦ (x, e, or_left (eqb x x) (has_block xs x) (itself x))

@@ -3,12 +3,13 @@ use Rattle.std.proofs.Common.{◌≡◌, ℕ, ◌^◌, ◌≤◌, Bool, true, fa
 use Rattle.std.specs.Prelude.{filter, is_some, map}
 use Rattle.std.specs.List.{AllByRecursion, list_any}
 use Rattle.cf_ask_rule.proofs.Filters.{all_then, not_both}
+use Rattle.cf_ask_rule.proofs.Kept.{none_live, over_is, some_live, stays_awaited}
 use Rattle.cf_ask_rule.proofs.Narrow.{all_near, ended_same, in_blocks, of_ended}
-use Rattle.cf_ask_rule.proofs.NearPlans.{all_both, ask_released, expires, leaves, some_owned}
+use Rattle.cf_ask_rule.proofs.NearPlans.{all_both, expires, leaves, some_owned}
 use Rattle.cf_ask_rule.proofs.Nearby.{none_expires, none_leaves, own_data}
 use Rattle.cf_ask_rule.proofs.Whys.{same_why}
 use Rattle.cf_ask_rule.specs.Deeds.{after, awaited_by, why_for}
-use Rattle.cf_ask_rule.specs.Narrowing.{AreAlike, AreNear, IsAround, IsWithin, MayPlan, Narrows, PlansExpiry, PlansLeave, is_touched, reaches_into, those, why_near}
+use Rattle.cf_ask_rule.specs.Narrowing.{AreAlike, AreNear, IsAround, IsWithin, MayPlan, Narrows, PlansExpiry, PlansLeave, is_awaited, is_touched, kept_without, reaches_into, those, why_near}
 use Rattle.cf_ask_rule.specs.Plans.{plan_of}
 use Rattle.cf_base.specs.declared.ids.ItemId.{ItemId}
 use Rattle.cf_base.specs.declared.ids.Key.{Key}
@@ -82,7 +83,7 @@ near_why item u v d start end waits asks ended narrow unmet e =
 within_of : (v : View) (lo hi : ℕ) (f : Wait → Option Cause) (waits : List Wait) (ended : List (Wait × Cause)) → ended ≡ ended_of f waits → AllByRecursion (λ e. IsWithin v lo hi e.0) ended → AllByRecursion (λ w. is_some (f w) ≡ true → IsWithin v lo hi w) waits
 within_of v lo hi f waits ended e h = of_ended (IsWithin v lo hi) f waits (subst (λ (l : List (Wait × Cause)). AllByRecursion (λ e. IsWithin v lo hi e.0) l) e h)
 
--- blocks leave an ask that owns no other
+-- blocks leave an ask
 
 none_wanted : (item : ItemId) (v : View) (blocks : List ℕ) (b : ℕ) (ws : List Wait) → ((w : Wait) → misses_in v blocks w ≡ false) → has_block blocks b ≡ true → is_wanted item v ws b ≡ false
 none_wanted item v blocks b [] lacks h = refl
@@ -94,50 +95,41 @@ none_wanted item v blocks b (w ∷ ws) lacks h = ap (λ c. c || is_wanted item v
   right true y k = k
   right false y k = refl
 
-over_released : (key : Key) (blocks : List ℕ) (a : Live) → is_data a.ask.kind ≡ true → is_empty (filter (λ b. not (has_block blocks b)) a.owned) ≡ true → same_key a.ask.key key ≡ true → is_over (Leaves key blocks) (released key blocks a) ≡ true
-over_released key blocks a bytes empty e =
-    ap (λ c. is_over (Leaves key blocks) (cond c (record a { owned = filter (λ b. not (has_block blocks b)) a.owned; ticks = 0 }) a)) e ∙ two (is_data a.ask.kind) (is_empty (filter (λ b. not (has_block blocks b)) a.owned)) bytes empty
-  where
-    two : (x y : Bool) → x ≡ true → y ≡ true → (x && y) ≡ true
-    two true y h k = k
-    two false y h k = h
-
-none_live : (key : Key) (blocks : List ℕ) (asks : List Live) → AllByRecursion (λ a. same_key a.ask.key key ≡ true → is_over (Leaves key blocks) (released key blocks a) ≡ true) asks → live_of (after (Leaves key blocks) asks) key ≡ None
-none_live key blocks [] h = refl
-none_live key blocks (a ∷ asks) h = one (is_over (Leaves key blocks) (released key blocks a)) refl (none_live key blocks asks h.1) where
-  rest : List Live
-  rest = after (Leaves key blocks) asks
-
-  one : (o : Bool) → is_over (Leaves key blocks) (released key blocks a) ≡ o → live_of rest key ≡ None → live_of (cond (not o) (released key blocks a ∷ rest) rest) key ≡ None
-  one true e k = k
-  one false e k =
-      ap (λ c. cond c (Some (released key blocks a)) (live_of rest key))
-      (ap (λ (x : Ask). same_key x.key key) (ask_released key blocks a) ∙ untrue (same_key a.ask.key key) (λ t. not_both (is_over (Leaves key blocks) (released key blocks a)) (h.0 t) e)) ∙ k
-
 pub leave_plan : (item : ItemId) (u v : View) (start end lo hi : ℕ) (key : Key) (blocks : List ℕ) (waits near : List Wait) (xs ys : List Live) (own : Live) (ended : List (Wait × Cause)) → Narrows u v start end → length v.lacks ≤ 2 ^ 24 → lo ≤ start → end ≤ hi
-    → AllByRecursion (λ e. IsWithin v lo hi e.0) ended → list_any (is_touched item key lo hi) xs ≡ false → ((w : Wait) → misses_in v blocks w ≡ false) → is_empty (filter (λ b. not (has_block blocks b)) own.owned) ≡ true → live_of xs key ≡ Some own
-    → ended ≡ ended_of (why_near item v (Leaves key blocks) None start end) near → AreNear item v start end near waits → AreAlike xs ys → MayPlan item u key waits ys → PlansLeave item v key blocks waits ys ended
-leave_plan item u v start end lo hi key blocks waits near xs ys own ended narrow small low high inside out lacks empty live is nears alike may = record {
+    → AllByRecursion (λ e. IsWithin v lo hi e.0) ended → list_any (is_touched item key lo hi) xs ≡ false → ((w : Wait) → misses_in v blocks w ≡ false) → live_of xs key ≡ Some own → ended ≡ ended_of (why_near item v (Leaves key blocks) None start end) near
+    → AreNear item v start end near waits → is_awaited item v waits (kept_without blocks own) ≡ true → AreAlike xs ys → MayPlan item u key waits ys → PlansLeave item v key blocks waits ys ended (kept_without blocks own)
+leave_plan item u v start end lo hi key blocks waits near xs ys own ended narrow small low high inside out lacks live is nears awaited alike may = record {
   ends = sym ends;
   cancels = plan.0.0;
-  goes = ap (λ (l : List Live). live_of l key) plan.1 ∙ none_live key blocks ys over;
+  keeps = ap (λ (l : List Live). live_of l key) plan.1 ∙ kept (is_empty (others own.owned)) refl;
   makes = plan.0.1;
 } where
   d : Deed
   d = Leaves key blocks
 
+  others : List ℕ → List ℕ
+  others o = filter (λ b. not (has_block blocks b)) o
+
   ends : ended ≡ ended_of (why item v d ys) waits
   ends = near_why item u v d start end waits ys ended narrow may.settled.unmet (is ∙ nears (why_near item v d None start end) (λ w h. none_leaves item v key blocks start end w h))
 
-  over : AllByRecursion (λ a. same_key a.ask.key key ≡ true → is_over d (released key blocks a) ≡ true) ys
-  over = all_then (λ a. (is_data a.ask.kind ≡ true) × (same_key a.ask.key key ≡ true → live_of ys key ≡ Some a)) (λ a. same_key a.ask.key key ≡ true → is_over d (released key blocks a) ≡ true)
-      (λ a p t. over_released key blocks a p.0 (ap (λ (o : List ℕ). is_empty (filter (λ b. not (has_block blocks b)) o)) (owned_alike key own a xs ys alike live (p.1 t)) ∙ empty) t)
+  -- the ask of the key, with its ticks
+  same : AllByRecursion (λ a. same_key a.ask.key key ≡ true → (is_data a.ask.kind ≡ true) × (a.owned ≡ own.owned)) ys
+  same = all_then (λ a. (is_data a.ask.kind ≡ true) × (same_key a.ask.key key ≡ true → live_of ys key ≡ Some a)) (λ a. same_key a.ask.key key ≡ true → (is_data a.ask.kind ≡ true) × (a.owned ≡ own.owned)) (λ a p t. (p.0, owned_alike key own a xs ys alike live (p.1 t)))
       ys (all_both (λ a. is_data a.ask.kind ≡ true) (λ a. same_key a.ask.key key ≡ true → live_of ys key ≡ Some a) ys may.data_asks may.unique)
+
+  over : (b : Bool) → is_empty (others own.owned) ≡ b → AllByRecursion (λ a. same_key a.ask.key key ≡ true → is_over d (released key blocks a) ≡ b) ys
+  over b e = all_then (λ a. same_key a.ask.key key ≡ true → (is_data a.ask.kind ≡ true) × (a.owned ≡ own.owned)) (λ a. same_key a.ask.key key ≡ true → is_over d (released key blocks a) ≡ b)
+      (λ a f t. over_is key blocks a (f t).0 t ∙ ap (λ (o : List ℕ). is_empty (others o)) (f t).1 ∙ e) ys same
+
+  kept : (b : Bool) → is_empty (others own.owned) ≡ b → live_of (after d ys) key ≡ cond b None (Some (record own { owned = others own.owned; ticks = 0 }))
+  kept true e = none_live key blocks ys (over true e)
+  kept false e = some_live key blocks own xs ys alike live (over false e)
 
   plan : (((plan_of item v d waits ys).cancelled ≡ []) × ((plan_of item v d waits ys).made ≡ [])) × ((plan_of item v d waits ys).kept ≡ after d ys)
   plan = leaves item u v start end lo hi waits ys key blocks narrow small low high (within_of v lo hi (why item v d ys) waits ended ends inside) may.settled may.data_asks may.plain
       (touched_alike item key lo hi xs ys alike ∙ out) (λ b h. none_wanted item v blocks b (left_of (why item v d ys) waits) lacks h)
-      (all_then (λ a. same_key a.ask.key key ≡ true → is_over d (released key blocks a) ≡ true) _ (λ a f t g. absurd (not_both (is_over d (released key blocks a)) (f t) g)) ys over)
+      (all_then (λ a. same_key a.ask.key key ≡ true → (is_data a.ask.kind ≡ true) × (a.owned ≡ own.owned)) _ (λ a f t g. stays_awaited item v key blocks waits ys own a awaited (f t).0 (f t).1 t g) ys same)
 
 -- an ask ends by time
 

@@ -10,6 +10,7 @@ pub mod Flags
 pub mod Following
 pub mod Fronted
 pub mod Joined
+pub mod Kept
 pub mod Local
 pub mod Missed
 pub mod Narrow

@@ -115,7 +115,7 @@ was_wanted ask_kind.List item v ws a true d e h = let z : false ≡ true = d in 
 was_wanted ask_kind.Dehydrate item v ws a true d e h = let z : false ≡ true = d in cc
 was_wanted kind item v ws a false d e h = let z : false ≡ true = e in cc
 
-not_idle : (kind : AskKind) (item : ItemId) (v : View) (ws : List Wait) (a : Live) (x : Bool) → is_data kind ≡ true → (x ≡ true → list_any (is_wanted item v ws) a.owned ≡ true) → (x && is_idle_by kind item v ws a) ≡ false
+pub not_idle : (kind : AskKind) (item : ItemId) (v : View) (ws : List Wait) (a : Live) (x : Bool) → is_data kind ≡ true → (x ≡ true → list_any (is_wanted item v ws) a.owned ≡ true) → (x && is_idle_by kind item v ws a) ≡ false
 not_idle ask_kind.Fetch item v ws a true d h = ap not (h refl)
 not_idle ask_kind.Validate item v ws a true d h = ap not (h refl)
 not_idle ask_kind.List item v ws a true d h = let z : false ≡ true = d in cc

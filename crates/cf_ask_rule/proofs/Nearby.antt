@@ -40,7 +40,7 @@ none_leaves item v key blocks start end w h = one (eqb w.item.0 item.0) (reaches
 reached : (s n from to p : ℕ) → from ≤ p → p < to → s ≤ p → p < s + n → nat_lt (max s from) (min (s + n) to) ≡ true
 reached s n from to p a b c d = grind (arith, nat_tests)
 
-misses_none : (v : View) (w : Wait) (from to : ℕ) (owned : List ℕ) → length v.lacks ≤ 2 ^ 24 → AllByRecursion (λ b. (from ≤ 4096 * b) × (min (4096 * b + 4096) (2 ^ 32) ≤ to)) owned → reaches_into (needed v w) from to ≡ false → misses_in v owned w ≡ false
+pub misses_none : (v : View) (w : Wait) (from to : ℕ) (owned : List ℕ) → length v.lacks ≤ 2 ^ 24 → AllByRecursion (λ b. (from ≤ 4096 * b) × (min (4096 * b + 4096) (2 ^ 32) ≤ to)) owned → reaches_into (needed v w) from to ≡ false → misses_in v owned w ≡ false
 misses_none v w from to [] small h away = refl
 misses_none v w from to (b ∷ bs) small h away = ap (λ c. c || misses_in v bs w) first ∙ misses_none v w from to bs small h.1 away where
   first : misses_block v w b ≡ false

@@ -5,10 +5,11 @@ use Rattle.cf_base.specs.declared.ids.ItemId.{ItemId}
 use Rattle.cf_base.specs.declared.ids.Key.{Key}
 use Rattle.cf_base.specs.declared.spans.Span.{Span}
 use Rattle.cf_base.specs.declared.waits.Cause.{Cause}
-use Rattle.cf_model.specs.Asks.{ended_of, or_met}
+use Rattle.cf_model.specs.Asks.{ended_of, misses_in, or_met}
 use Rattle.cf_model.specs.Missing.{View, Wait, is_met, needed}
 use Rattle.cf_model.specs.Numbers.{same_key}
-use Rattle.cf_model.specs.Requests.{Deed, Expires, Leaves, Live, is_data, is_dehydrate_wait, live_of}
+use Rattle.cf_model.specs.Requests.{Deed, Expires, Leaves, Live, has_block, is_data, is_dehydrate_wait, live_of}
+use Rattle.cf_model.specs.Words.{is_empty}
 use Rattle.cf_ranges.specs.Positions.{contains, within}
 use Rattle.cf_ask_rule.specs.Deeds.{cause_for}
 use Rattle.cf_ask_rule.specs.Near.{IsFull}
@@ -80,11 +81,20 @@ pub record MayPlan (item : ItemId) (u : View) (key : Key) (waits : List Wait) (a
   pub once : filter (λ a. same_key a.ask.key key) asks ≡ those (live_of asks key)
   pub apart : AreApart item asks
 
--- These waits end as the last blocks leave the ask of the key, and no other ask changes.
-pub record PlansLeave (item : ItemId) (v : View) (key : Key) (blocks : List ℕ) (waits : List Wait) (asks : List Live) (ended : List (Wait × Cause)) : Type 0 where
+-- the ask without blocks, where it keeps others; its time begins anew
+abbrev pub kept_without : List ℕ → Live → Option Live
+kept_without blocks a = cond (is_empty (filter (λ b. not (has_block blocks b)) a.owned)) None (Some (record a { owned = filter (λ b. not (has_block blocks b)) a.owned; ticks = 0 }))
+
+-- one of the waits on the item misses a byte in the blocks of the ask, if there is one
+abbrev pub is_awaited : ItemId → View → List Wait → Option Live → Bool
+is_awaited item v waits None = true
+is_awaited item v waits (Some a) = list_any (λ w. (w.item.0 == item.0) && misses_in v a.owned w) waits
+
+-- These waits end as blocks leave the ask of the key, which is kept so where it keeps blocks, and no other ask changes.
+pub record PlansLeave (item : ItemId) (v : View) (key : Key) (blocks : List ℕ) (waits : List Wait) (asks : List Live) (ended : List (Wait × Cause)) (kept : Option Live) : Type 0 where
   pub ends : (plan_of item v (Leaves key blocks) waits asks).ended ≡ ended
   pub cancels : (plan_of item v (Leaves key blocks) waits asks).cancelled ≡ []
-  pub goes : live_of (plan_of item v (Leaves key blocks) waits asks).kept key ≡ None
+  pub keeps : live_of (plan_of item v (Leaves key blocks) waits asks).kept key ≡ kept
   pub makes : (plan_of item v (Leaves key blocks) waits asks).made ≡ []
 
 -- These waits end as the ask of the key ends by time, and no other ask changes.

@@ -1,15 +1,15 @@
 //! What a step changes on an item for which nothing was left to do, by what changed since.
-ghost use Rattle.std.specs.Prelude.{◌≡◌, List, Some, false, filter, not, map, IfOk, IfSome, option_copied, ◌≤◌, ◌&&◌, ◌+◌, ◌-◌, ◌*◌, ◌^◌, ◌==◌, min};
+ghost use Rattle.std.specs.Prelude.{◌≡◌, List, Some, false, true, map, IfOk, IfSome, option_copied, ◌≤◌, ◌&&◌, ◌+◌, ◌-◌, ◌*◌, ◌^◌, ◌==◌, min};
 ghost use Rattle.std.specs.List.{AllByRecursion, list_all, list_any};
 ghost use Rattle.cf_ask_rule.specs.Deeds.{deed_of};
-ghost use Rattle.cf_ask_rule.specs.Narrowing.{AreAlike, AreNear, IsAround, IsWithin, MayPlan, Narrows, PlansExpiry, PlansLeave, is_touched, reaches_into, those, why_near};
+ghost use Rattle.cf_ask_rule.specs.Narrowing.{AreAlike, AreNear, IsAround, IsWithin, MayPlan, Narrows, PlansExpiry, PlansLeave, is_awaited, is_touched, kept_without, reaches_into, those, why_near};
 ghost use Rattle.cf_ask_rule.specs.Owners.{AreApart};
 ghost use Rattle.cf_ask_rule.specs.Places.{places};
 ghost use Rattle.cf_model.specs.Asks.{ended_of};
 ghost use Rattle.cf_model.specs.Missing.{Wait, is_met, needed};
 ghost use Rattle.cf_model.specs.Numbers.{same_key};
 ghost use Rattle.cf_model.specs.Requests.{Live, has_block, live_of};
-ghost use Rattle.cf_model.specs.Words.{counting, is_empty, says};
+ghost use Rattle.cf_model.specs.Words.{counting, says};
 
 use crate::acts::{Act, cause_by, or_met};
 use crate::asks::LiveAsk;
@@ -22,8 +22,9 @@ use std::alloc::Global;
 
 const BLOCK: u64 = 4096;
 
-/// The waits that end as the last blocks leave an ask, where this is what changed since nothing was left to do. Of the waits
-/// those are given that need something of it. Nothing where another ask may change; then a plan has to look at all.
+/// The waits that end as blocks leave an ask, where this is what changed since nothing was left to do. Of the waits those are given
+/// that need something of it. Where the ask keeps blocks, a wait misses a byte in them. Nothing where another ask may change; then a
+/// plan has to look at all.
 pub fn make_leave_plan(
     alloc: Global,
     item: ItemId,
@@ -38,10 +39,10 @@ pub fn make_leave_plan(
 ) -> Result<Option<Vec<(LiveWait, Cause)>>, OutOfMemory>
     requires narrows { Narrows old.now v.now change.start change.end }
     requires own { live_of asks.now key ≡ Some own.now }
-    ensures { (waits : List Wait) (ys : List Live) → AreNear item v.now change.start change.end near.now waits → AreAlike asks.now ys → MayPlan item old.now key waits ys → IfOk result (λ r. IfSome r (λ ended. PlansLeave item v.now key (counting blocks.start blocks.len) waits ys ended.items)) }
+    ensures { (waits : List Wait) (ys : List Live) → AreNear item v.now change.start change.end near.now waits → is_awaited item v.now waits (kept_without (counting blocks.start blocks.len) own.now) ≡ true → AreAlike asks.now ys → MayPlan item old.now key waits ys → IfOk result (λ r. IfSome r (λ ended. PlansLeave item v.now key (counting blocks.start blocks.len) waits ys ended.items (kept_without (counting blocks.start blocks.len) own.now))) }
 {
     let _size = v.size();
-    if lacks_in(v, blocks) || !is_over_without(alloc, own, blocks)? {
+    if lacks_in(v, blocks) {
         return Ok(None);
     }
     let act = Act::Leaves { key, blocks };
@@ -52,6 +53,31 @@ pub fn make_leave_plan(
         return Ok(None);
     }
     Ok(Some(ended))
+}
+
+/// The ask without blocks, where it keeps others. Its time begins anew.
+pub fn kept_without(
+    alloc: Global,
+    own: &LiveAsk,
+    blocks: Span,
+) -> Result<Option<LiveAsk>, OutOfMemory>
+    ensures { IfOk result (λ k. k ≡ kept_without (counting blocks.start blocks.len) own.now) }
+{
+    let left = own.without(alloc, blocks)?;
+    if left.has_no_block() {
+        drop(left);
+        return Ok(None);
+    }
+    Ok(Some(left))
+}
+
+/// Whether one of these waits on the item misses a byte in the blocks of the ask.
+pub fn is_awaited(item: ItemId, v: &Sight, waits: &[LiveWait], a: &LiveAsk) -> bool
+    ensures { result ≡ is_awaited item v.now waits.now (Some a.now) }
+{
+    waits
+        .iter()
+        .any(|w| w.item().0 == item.0 && a.is_missed(v, w))
 }
 
 /// The waits that end as an ask ends by time, and its key, where it is live. This is what changed since nothing was left to do,
@@ -99,8 +125,8 @@ pub fn span_around(change: Change, own: Option<&LiveAsk>) -> Change
     }
 }
 
-// From the first to the last position of the blocks of an ask.
-fn positions_of(a: &LiveAsk) -> Change
+/// From the first to the last position of the blocks of an ask.
+pub fn positions_of(a: &LiveAsk) -> Change
     ensures { IsAround result.start result.end (Some a.now) }
 {
     positions_in(a.runs())
@@ -145,14 +171,6 @@ fn owns_all(a: &LiveAsk, item: ItemId, first: u64, end: u64) -> bool
             start: first,
             len: end.saturating_sub(first),
         })
-}
-
-// Whether the ask has no block but these.
-fn is_over_without(alloc: Global, own: &LiveAsk, blocks: Span) -> Result<bool, OutOfMemory>
-    ensures { IfOk result (λ b. b ≡ is_empty (filter (λ c. not (has_block (counting blocks.start blocks.len) c)) own.now.owned)) }
-{
-    let left = own.without(alloc, blocks)?;
-    Ok(left.has_no_block())
 }
 
 fn keys_of(alloc: Global, own: Option<&LiveAsk>) -> Result<Vec<Key>, OutOfMemory>

@@ -19,7 +19,10 @@ mod waits;
 
 pub use acts::{Act, live_of};
 pub use asks::LiveAsk;
-pub use changed_plans::{is_needing, make_expiry_plan, make_leave_plan, span_around};
+pub use changed_plans::{
+    is_awaited, is_needing, kept_without, make_expiry_plan, make_leave_plan, positions_of,
+    span_around,
+};
 pub use changes::Change;
 pub use kinds::{is_data, is_dehydrate, is_list};
 pub use laws::{

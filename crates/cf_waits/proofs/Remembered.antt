@@ -60,14 +60,13 @@ may_plan item u key s settled bytes plain sound = record {
   apart = sound.apart item;
 }
 
-pub leave_is : (item : ItemId) (v : View) (key : Key) (blocks : List ℕ) (ended : List (Wait × Cause)) (s : Waiting) → IsSound s → PlansLeave item v key blocks s.waits s.asks ended
-    → carried (record { ended = ended; cancelled = []; dropped = Some key; changed = None; made = []; item = item; view = v }) s ≡ step_of item v (Leaves key blocks) s
-leave_is item v key blocks ended s sound h =
+pub leave_is : (item : ItemId) (v : View) (key : Key) (blocks : List ℕ) (ended : List (Wait × Cause)) (kept : Option Live) (s : Waiting) → IsSound s → PlansLeave item v key blocks s.waits s.asks ended kept
+    → carried (record { ended = ended; cancelled = []; dropped = unless_kept key kept; changed = kept; made = []; item = item; view = v }) s ≡ step_of item v (Leaves key blocks) s
+leave_is item v key blocks ended kept s sound h =
     let o : Outlook = plan_of item v (Leaves key blocks) s.waits s.asks in
-    let f : List (Wait × Cause) → List Key → Option Key → Option Live → List Live → Told × Waiting = λ e c k g m. carried (record { ended = e; cancelled = c; dropped = k; changed = g; made = m; item = item; view = v }) s in
-    ap (λ x. f x [] (Some key) None []) (sym h.ends) ∙ ap (λ x. f o.ended x (Some key) None []) (sym h.cancels)
-    ∙ ap (λ x. f o.ended o.cancelled x None []) (ap (unless_kept key) (sym h.goes)) ∙ ap (λ x. f o.ended o.cancelled (unless_kept key (live_of o.kept key)) x []) (sym h.goes)
-    ∙ ap (λ x. f o.ended o.cancelled (unless_kept key (live_of o.kept key)) (live_of o.kept key) x) (sym h.makes) ∙ whole item v (Leaves key blocks) s sound
+    let f : List (Wait × Cause) → List Key → Option Live → List Live → Told × Waiting = λ e c k m. carried (record { ended = e; cancelled = c; dropped = unless_kept key k; changed = k; made = m; item = item; view = v }) s in
+    ap (λ x. f x [] kept []) (sym h.ends) ∙ ap (λ x. f o.ended x kept []) (sym h.cancels) ∙ ap (λ x. f o.ended o.cancelled x []) (sym h.keeps) ∙ ap (λ x. f o.ended o.cancelled (live_of o.kept key) x) (sym h.makes)
+    ∙ whole item v (Leaves key blocks) s sound
 
 pub expiry_is : (item : ItemId) (v : View) (key : Key) (ended : List (Wait × Cause)) (cancelled : List Key) (s : Waiting) → IsSound s → PlansExpiry item v key s.waits s.asks ended cancelled
     → carried (record { ended = ended; cancelled = cancelled; dropped = None; changed = None; made = []; item = item; view = v }) s ≡ step_of item v (Expires key) s

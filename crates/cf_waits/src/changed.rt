@@ -1,43 +1,49 @@
 //! Steps on the item that was looked at last, by what changed of it since.
-ghost use Rattle.std.specs.Prelude.{◌≡◌, [], false, true, IfOk, IfSome, IsTrue, None};
+ghost use Rattle.std.specs.Prelude.{◌≡◌, [], false, true, IfOk, IfSome, IsTrue};
 ghost use Rattle.std.specs.List.{AllByRecursion};
 ghost use Rattle.cf_ask_rule.specs.Deeds.{deed_of};
 ghost use Rattle.cf_ask_rule.specs.Settled.{IsSettled};
 ghost use Rattle.cf_model.specs.Asks.{step_of};
 ghost use Rattle.cf_model.specs.Requests.{Expires, Leaves, is_data, is_dehydrate_wait};
 ghost use Rattle.cf_model.specs.Words.{counting};
+ghost use Rattle.cf_waits.specs.Deltas.{unless_kept};
 ghost use Rattle.cf_waits.specs.Steps.{carried};
 
 use crate::ask_lists::find_ask;
 use crate::requests::{Requests, Step};
-use cf_ask_rule::{Act, LiveWait, Sight, make_expiry_plan, make_leave_plan, span_around};
+use cf_ask_rule::{
+    Act, LiveAsk, LiveWait, Sight, kept_without, make_expiry_plan, make_leave_plan, span_around,
+};
 use cf_base::{Cause, ItemId, Key, OutOfMemory, Span};
 use std::alloc::Global;
 
-/// What a step changes that makes no ask, and after which blocks have left no ask that is kept.
+/// What a step changes that makes no ask.
 #[derive(Drop)]
 pub(crate) struct Ends {
     pub(crate) waits: Vec<(LiveWait, Cause)>,
     pub(crate) cancelled: Vec<Key>,
     // The ask that is over without a line.
     pub(crate) dropped: Option<Key>,
+    // The ask that blocks have left.
+    pub(crate) changed: Option<LiveAsk>,
 }
 
 impl Ends {
     /// The step of these, on the item as this shows it.
     pub(crate) fn step(self, alloc: Global, item: ItemId, sight: Sight) -> Step
-        ensures { result ≡ record { ended = self.waits.items; cancelled = self.cancelled.items; dropped = self.dropped; changed = None; made = []; item = item; view = sight } }
+        ensures { result ≡ record { ended = self.waits.items; cancelled = self.cancelled.items; dropped = self.dropped; changed = self.changed; made = []; item = item; view = sight } }
     {
         let Ends {
             waits,
             cancelled,
             dropped,
+            changed,
         } = self;
         Step {
             ended: waits,
             cancelled,
             dropped,
-            changed: None,
+            changed,
             made: Vec::new(alloc),
             item,
             sight,
@@ -54,7 +60,7 @@ impl Requests {
         act: Act,
         sight: &Sight,
     ) -> Result<Option<Ends>, OutOfMemory>
-        ensures { IfOk result (λ r. IfSome r (λ e. carried (record { ended = e.waits.items; cancelled = e.cancelled.items; dropped = e.dropped; changed = None; made = []; item = item; view = sight.now }) self.now ≡ step_of item sight.now (deed_of act) self.now)) }
+        ensures { IfOk result (λ r. IfSome r (λ e. carried (record { ended = e.waits.items; cancelled = e.cancelled.items; dropped = e.dropped; changed = e.changed; made = []; item = item; view = sight.now }) self.now ≡ step_of item sight.now (deed_of act) self.now)) }
     {
         if !self.waits.is_quick(item) {
             return Ok(None);
@@ -82,7 +88,7 @@ impl Requests {
         key: Key,
         blocks: Span,
     ) -> Result<Option<Ends>, OutOfMemory>
-        ensures { IfOk result (λ r. IfSome r (λ e. carried (record { ended = e.waits.items; cancelled = e.cancelled.items; dropped = e.dropped; changed = None; made = []; item = item; view = sight.now }) self.now ≡ step_of item sight.now (Leaves key (counting blocks.start blocks.len)) self.now)) }
+        ensures { IfOk result (λ r. IfSome r (λ e. carried (record { ended = e.waits.items; cancelled = e.cancelled.items; dropped = e.dropped; changed = e.changed; made = []; item = item; view = sight.now }) self.now ≡ step_of item sight.now (Leaves key (counting blocks.start blocks.len)) self.now)) }
     {
         let Some(seen) = self.seen_of(item) else {
             return Ok(None);
@@ -97,17 +103,26 @@ impl Requests {
         let Some(change) = seen.narrowed(sight) else {
             return Ok(None);
         };
+        let kept = kept_without(self.alloc, own, blocks)?;
+        if !self.waits.is_awaited(item, sight, &kept) {
+            drop(kept);
+            return Ok(None);
+        }
         let near = self.waits.near(item, sight, change);
         let plan = make_leave_plan(
             self.alloc, item, seen, sight, change, key, blocks, own, near, asks,
         )?;
         match plan {
-            Some(ended) => Ok(Some(Ends {
-                waits: ended,
+            Some(waits) => Ok(Some(Ends {
+                waits,
                 cancelled: Vec::new(self.alloc),
-                dropped: Some(key),
+                dropped: dropped_by(key, &kept),
+                changed: kept,
             })),
-            None => Ok(None),
+            None => {
+                drop(kept);
+                Ok(None)
+            }
         }
     }
 
@@ -117,7 +132,7 @@ impl Requests {
         sight: &Sight,
         key: Key,
     ) -> Result<Option<Ends>, OutOfMemory>
-        ensures { IfOk result (λ r. IfSome r (λ e. carried (record { ended = e.waits.items; cancelled = e.cancelled.items; dropped = e.dropped; changed = None; made = []; item = item; view = sight.now }) self.now ≡ step_of item sight.now (Expires key) self.now)) }
+        ensures { IfOk result (λ r. IfSome r (λ e. carried (record { ended = e.waits.items; cancelled = e.cancelled.items; dropped = e.dropped; changed = e.changed; made = []; item = item; view = sight.now }) self.now ≡ step_of item sight.now (Expires key) self.now)) }
     {
         let Some(seen) = self.seen_of(item) else {
             return Ok(None);
@@ -140,6 +155,7 @@ impl Requests {
                 waits: ends.0,
                 cancelled: ends.1,
                 dropped: None,
+                changed: None,
             })),
             None => Ok(None),
         }
@@ -161,5 +177,15 @@ impl Requests {
         ensures waits { IsTrue result → AllByRecursion (λ w. is_dehydrate_wait w.kind ≡ false) self.now.waits }
     {
         self.asks.is_data() && self.waits.is_plain()
+    }
+}
+
+// The key of an ask that keeps no block.
+fn dropped_by(key: Key, kept: &Option<LiveAsk>) -> Option<Key>
+    ensures { result ≡ unless_kept key kept.now }
+{
+    match kept {
+        Some(_) => None,
+        None => Some(key),
     }
 }

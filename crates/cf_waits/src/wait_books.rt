@@ -1,7 +1,7 @@
 //! The live waits, by number and by item.
-ghost use Rattle.std.specs.Prelude.{◌≡◌, ◌+◌, ◌<◌, ◌≤◌, ◌++◌, ◌∷◌, ◌&&◌, ◌==◌, [], cond, false, filter, length, not, IfOk, IsTrue, OnOk};
+ghost use Rattle.std.specs.Prelude.{◌≡◌, ◌+◌, ◌<◌, ◌≤◌, ◌++◌, ◌∷◌, ◌&&◌, ◌==◌, [], cond, false, filter, length, not, IfOk, IsTrue, OnOk, Some};
 ghost use Rattle.std.specs.List.{AllByRecursion, list_any};
-ghost use Rattle.cf_ask_rule.specs.Narrowing.{AreNear};
+ghost use Rattle.cf_ask_rule.specs.Narrowing.{AreNear, is_awaited};
 ghost use Rattle.cf_ask_rule.specs.Near.{is_on};
 ghost use Rattle.cf_model.specs.Missing.{Wait};
 ghost use Rattle.cf_model.specs.Numbers.{same_key};
@@ -15,8 +15,8 @@ use crate::entries::{Entry, add_entry, entries_on, remove_entry};
 use crate::lines::{line_left, line_with, near_by};
 use crate::wait_lists::{find_wait, place_from, take_wait, wait_at, wait_there};
 use cf_ask_rule::{
-    Change, LiveWait, Sight, WaitNumber, is_background, is_dehydrate_wait, is_hydrate_wait,
-    is_list_wait,
+    Change, LiveAsk, LiveWait, Sight, WaitNumber, is_awaited, is_background, is_dehydrate_wait,
+    is_hydrate_wait, is_list_wait, positions_of,
 };
 use cf_base::{AskKind, ItemId, OutOfMemory, WaitId};
 use std::alloc::Global;
@@ -123,6 +123,25 @@ impl WaitBook {
         ensures { AreNear item v.now span.start span.end result.now self.now.waits }
     {
         near_by(&self.waits, self.line, item, v, span)
+    }
+
+    /// Whether a wait on the item misses a byte in the blocks of the ask, if there is one. It looks at the waits that need something
+    /// from the first to the last of these blocks, up to one that does.
+    pub(crate) fn is_awaited(&self, item: ItemId, v: &Sight, ask: &Option<LiveAsk>) -> bool
+        ensures { result ≡ is_awaited item v.now self.now.waits ask.now }
+    {
+        match ask {
+            Some(a) => self.awaits(item, v, a),
+            None => true,
+        }
+    }
+
+    fn awaits(&self, item: ItemId, v: &Sight, a: &LiveAsk) -> bool
+        ensures { result ≡ is_awaited item v.now self.now.waits (Some a.now) }
+    {
+        let _size = v.size();
+        let span = positions_of(a);
+        is_awaited(item, v, self.near(item, v, span), a)
     }
 
     /// Whether `near` is worth it: by halves, or by a pass of which the waits on the item are a good share.
