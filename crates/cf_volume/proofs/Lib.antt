@@ -38,3 +38,4 @@ pub mod DraftNews
 pub mod DraftFlags
 pub mod FirstDraft
 pub mod BesideRoom
+pub mod BlocksAhead

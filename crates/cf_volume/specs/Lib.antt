@@ -17,3 +17,4 @@ pub mod Tallies
 pub mod Besides
 pub mod Written
 pub mod Waits
+pub mod Ahead

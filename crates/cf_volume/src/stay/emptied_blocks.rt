@@ -1,28 +1,61 @@
 //! Extents whose block holds no byte any more, dropped.
 
-ghost use Rattle.std.specs.Prelude.{◌≡◌, ◌<◌, ℕ, Some, not, filter, length, map, take, IfOk, OnOk, MatchOption};
+ghost use Rattle.std.specs.Prelude.{◌≡◌, ◌*◌, ◌^◌, ◌<◌, ℕ, Some, not, filter, length, map, take, IfOk, OnOk, MatchOption};
 ghost use Rattle.std.specs.Option.{ForSome};
 ghost use Rattle.cf_clusters.specs.Roles.{dropped_at};
 ghost use Rattle.cf_volume_points.specs.Staging.{Drops, DropsGone, DropsOne};
-ghost use Rattle.cf_ranges.specs.Pairs.{cluster_at};
-ghost use Rattle.cf_ranges.specs.Positions.{touches};
+ghost use Rattle.cf_ranges.specs.Pairs.{IsRising, cluster_at};
+ghost use Rattle.cf_ranges.specs.Positions.{IsRuns, touches};
+ghost use Rattle.cf_volume.specs.Ahead.{EndsPast, IsAhead};
 
-use cf_base::OutOfMemory;
+use cf_base::limits::BLOCK_BYTES;
+use cf_base::{OutOfMemory, Span};
 use cf_clusters::Data;
-use cf_ranges::{ExtentMap, RangeSet};
+use cf_ranges::{ExtentMap, RangeSet, reaches};
 use std::alloc::Global;
 
-// The blocks of extents that have no place of the set.
+// The runs without those in front that end by the place.
+fn runs_past(runs: &[Span], place: u64) -> &[Span]
+    requires { IsRuns runs.now }
+    ensures ahead { IsAhead place runs.now result.now }
+    ensures ends { EndsPast place result.now }
+{
+    for (i, run) in runs.iter().enumerate() {
+        if reaches(*run, place) {
+            return &runs[i..];
+        }
+    }
+    &[]
+}
+
+// Whether the block has a place of the runs. The first of them ends past the start of the block.
+fn is_met(runs: &[Span], block: u64) -> bool
+    requires runs { IsRuns runs.now }
+    requires ends { EndsPast (4096 * block) runs.now }
+    requires small { block < 2 ^ 32 }
+    ensures { result ≡ touches runs.now block }
+{
+    match runs {
+        [] => false,
+        [first, ..] => first.start < BLOCK_BYTES * block + BLOCK_BYTES,
+    }
+}
+
+// The blocks of extents that have no place of the set. Both rise, so that one walk over the runs serves all blocks.
 fn gone_blocks(
     alloc: Global,
     here: &RangeSet,
     pairs: &[(u32, u32)],
 ) -> Result<Vec<u32>, OutOfMemory>
+    requires { IsRising pairs.now }
     ensures { IfOk result (λ v. v.items ≡ filter (λ b. not (touches here.now b)) (map (λ (e : ℕ × ℕ). e.0) pairs.now)) }
 {
     let mut gone = Vec::new(alloc);
+    let mut ahead = here.runs();
     for pair in pairs {
-        if !here.touches(pair.0 as u64) {
+        let block = pair.0 as u64;
+        ahead = runs_past(ahead, BLOCK_BYTES * block);
+        if !is_met(ahead, block) {
             gone.push(pair.0)?;
         }
     }
