@@ -18,8 +18,8 @@ use Rattle.cf_check_model.specs.Reports.{device_line}
 use Rattle.cf_check_model.specs.declared.verdicts.Verdict.{Verdict}
 use Rattle.cf_check_model.specs.declared.verdicts.Verdict.TheVariants.{Unlawful, Undecided}
 use Rattle.cf_check_text.specs.Clean.{is_clean}
-use Rattle.cf_check_room.specs.Rooms.{load_since, sure_count}
-use Rattle.cf_check_room.proofs.Heavy.{light_nowhere}
+use Rattle.cf_model_room.specs.Rooms.{load_since, sure_count}
+use Rattle.cf_model_room.proofs.Heavy.{light_nowhere}
 use Rattle.cf_check_ways.specs.Ways.{is_fault, is_good}
 use Rattle.cf_check_traces.specs.Decided.{MeetsResult}
 use Rattle.cf_check_traces.specs.Tests.{begins, both_resume, is_device, meets_alone, meets_lines}

@@ -12,7 +12,7 @@ use Rattle.cf_check_traces.specs.Tests.{begins, both_resume, fault_line_of_peer,
 use Rattle.cf_check_text.specs.Clean.{is_clean}
 use Rattle.cf_check_ways.specs.Ways.{is_fault, is_good}
 use Rattle.cf_check_judge.specs.Bytes.{same_bytes}
-use Rattle.cf_check_room.specs.Rooms.{load_since, sure_count}
+use Rattle.cf_model_room.specs.Rooms.{load_since, sure_count}
 use Rattle.cf_check_model.specs.Reports.{device_line, lines_of, result_lines}
 use Rattle.cf_check_model.specs.declared.verdicts.Verdict.{Verdict}
 use Rattle.cf_check_model.specs.declared.verdicts.Verdict.TheVariants.{Lawful, Unlawful, Undecided}

@@ -22,8 +22,8 @@ use Rattle.cf_check_report.proofs.Knowing.{held_next, known_next, point_before, 
 use Rattle.cf_check_report.proofs.Resuming.{counts_apart}
 use Rattle.cf_check_report.specs.Counts.{may_part}
 use Rattle.cf_check_report.specs.Points.{Known, Tells, known, next_known}
-use Rattle.cf_check_room.proofs.Loads.{weighed}
-use Rattle.cf_check_room.specs.Rooms.{sure_count}
+use Rattle.cf_model_room.proofs.Loads.{weighed}
+use Rattle.cf_model_room.specs.Rooms.{sure_count}
 use Rattle.cf_check_traces.specs.Followed.{IsNext, ResumesAsAccepted}
 use Rattle.cf_check_traces.specs.Tests.{begins, makes_point}
 use Rattle.cf_check_weights.specs.Weighed.{IsTallied, heavy_places}

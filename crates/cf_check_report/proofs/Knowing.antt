@@ -14,7 +14,7 @@ use Rattle.cf_base.specs.declared.events.Event.TheVariants as event
 use Rattle.cf_base.specs.declared.ids.Usn.{Usn}
 use Rattle.cf_base.specs.declared.policies.Mode.TheVariants as mode
 use Rattle.cf_check_report.specs.Points.{Known, known, known_from, next_known}
-use Rattle.cf_check_room.specs.Rooms.{sure_count}
+use Rattle.cf_model_room.specs.Rooms.{sure_count}
 use Rattle.cf_check_traces.specs.Tests.{is_count, is_flush, is_flushed, is_restart, is_resumed, makes_point}
 use Rattle.cf_check_ways.proofs.PointSteps.{flush_points, flush_power, restart_opens}
 use Rattle.cf_model.proofs.FlushedLaws.{runs_hold}

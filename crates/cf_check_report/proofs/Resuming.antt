@@ -18,9 +18,9 @@ use Rattle.cf_check_model.specs.Judging.{Accepted}
 use Rattle.cf_check_model.specs.Reports.{Begins}
 use Rattle.cf_check_report.proofs.Counting.{told_is}
 use Rattle.cf_check_report.specs.Counts.{count_of, count_told, may_part, may_resume}
-use Rattle.cf_check_room.proofs.Heavy.{IsHeavyAt, heavy_says, heavy_so}
-use Rattle.cf_check_room.proofs.Loads.{load_later, weighed}
-use Rattle.cf_check_room.specs.Rooms.{first_puts, is_heavy, load_since, sure_count}
+use Rattle.cf_model_room.proofs.Heavy.{IsHeavyAt, heavy_says, heavy_so}
+use Rattle.cf_model_room.proofs.Loads.{load_later, weighed}
+use Rattle.cf_model_room.specs.Rooms.{first_puts, is_heavy, load_since, sure_count}
 use Rattle.cf_check_traces.proofs.Counts.{resumed_there}
 use Rattle.cf_check_traces.proofs.NextSteps.{goes_on}
 use Rattle.cf_check_traces.proofs.RunPoints.{laden_run}

@@ -20,7 +20,7 @@ use Rattle.cf_report.specs.Texts.{notice_line, result_line, text}
 use Rattle.cf_check_model.specs.Judging.{Accepted}
 use Rattle.cf_check_model.specs.Reports.{Begins}
 use Rattle.cf_check_text.proofs.Lines.{one_count}
-use Rattle.cf_check_room.specs.Rooms.{sure_count, is_heavy}
+use Rattle.cf_model_room.specs.Rooms.{sure_count, is_heavy}
 use Rattle.cf_check_ways.specs.Ways.{SamePoints, core_of, Alike, of_state, IsOpenedAt}
 use Rattle.cf_check_ways.proofs.RoomPoints.{counts_of_sures}
 use Rattle.cf_check_ways.proofs.PointSteps.{restart_told, step_resumed}

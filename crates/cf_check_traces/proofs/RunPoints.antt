@@ -9,8 +9,8 @@ use Rattle.cf_model.specs.Points.{HasPoints, Opens}
 use Rattle.cf_model.specs.State.{Point, State, start}
 use Rattle.cf_model.specs.Store.{Held, empty_remote}
 use Rattle.cf_model.proofs.PointLaws.{runs_have_points}
-use Rattle.cf_check_room.specs.Rooms.{sure_count}
-use Rattle.cf_check_room.proofs.Heavy.{not_heavy_first}
+use Rattle.cf_model_room.specs.Rooms.{sure_count}
+use Rattle.cf_model_room.proofs.Heavy.{not_heavy_first}
 use Rattle.cf_check_ways.specs.Ways.{FirstFits, HadRoom, IsLaden, SamePoints, core_of}
 use Rattle.cf_check_ways.proofs.PointSteps.{step_fits, step_laden}
 use Rattle.cf_check_traces.specs.Decided.{NoneStopped}

@@ -9,7 +9,7 @@ use Rattle.cf_base.specs.declared.events.Event.TheVariants as event
 use Rattle.cf_base.specs.declared.policies.Mode.TheVariants as mode
 use Rattle.cf_check_model.specs.Judging.{Accepted, answer_of, event_of}
 use Rattle.cf_check_model.specs.Reports.{device_line, result_lines}
-use Rattle.cf_check_room.specs.Rooms.{is_heavy, sure_count}
+use Rattle.cf_model_room.specs.Rooms.{is_heavy, sure_count}
 use Rattle.cf_check_text.specs.Clean.{is_clean}
 use Rattle.cf_check_traces.specs.Decided.{IsStopped, MeetsFaults, MeetsResult, NoneStopped}
 use Rattle.cf_check_ways.specs.Ways.{Alike, SamePoints, core_of, is_good, of_state}

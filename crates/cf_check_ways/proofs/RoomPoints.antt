@@ -12,9 +12,9 @@ use Rattle.cf_model.specs.Points.{ArePoints, HasPoints, Opens}
 use Rattle.cf_model.specs.Restarts.{epoch_after, more_epochs, open_points, open_skipping, opened_at, points_at, restart, restart_by, resumed, with_opened}
 use Rattle.cf_model.specs.State.{Broken, Off, On, Point, Power, State, Volume}
 use Rattle.cf_model.specs.Trees.{Ends}
-use Rattle.cf_check_room.specs.Rooms.{is_heavy, load_since, sure_count}
-use Rattle.cf_check_room.proofs.Heavy.{fits_front, heavy_below}
-use Rattle.cf_check_room.proofs.Loads.{renewed}
+use Rattle.cf_model_room.specs.Rooms.{is_heavy, load_since, sure_count}
+use Rattle.cf_model_room.proofs.Heavy.{fits_front, heavy_below}
+use Rattle.cf_model_room.proofs.Loads.{renewed}
 use Rattle.cf_check_ways.specs.Ways.{Alike, BothResumed, FirstFits, HadRoom, IsLaden, IsOpenedAt, SameEnd, SamePoints, core_of, of_state, sures}
 use Rattle.cf_check_ways.proofs.Sure.{had_same, same_points}
 use Rattle.cf_check_ways.proofs.RestartsSure.{BothRefused, restart_both, ends_one_of, ends_one_point, opened_in, opens_reversed, same_opened}

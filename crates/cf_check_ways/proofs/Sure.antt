@@ -5,7 +5,7 @@ use Rattle.cf_base.specs.declared.codes.Code.{Code}
 use Rattle.cf_base.specs.declared.notices.Notice.{Notice}
 use Rattle.cf_model.specs.Arrows.{Arrow, and_then, attempt, choose, each, noted, one, one_or, only_if, reading, ret, seq, then_do, unit, unless, unless_done, when_ok}
 use Rattle.cf_model.specs.Trees.{Asked, Stops, Ends, Fork, Ret, Step, Tree, bind, mapped}
-use Rattle.cf_check_room.specs.Rooms.{sure_count}
+use Rattle.cf_model_room.specs.Rooms.{sure_count}
 use Rattle.cf_check_ways.specs.Ways.{BecomesSure, Core, HadRoom, IsLaden, SamePoints, Alike, FailedIn, Grown, IsFront, IsPlain, IsSure, IsSureFrom, Parted, Reads, SameEnd, View}
 
 -- ends of the first part and of the rest

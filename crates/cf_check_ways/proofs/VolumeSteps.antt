@@ -23,9 +23,9 @@ use Rattle.cf_model.specs.Settling.{accessed, accessed_by, ask_line, cancel_line
 use Rattle.cf_model.specs.State.{Filter, Point, State, Volume, in_filter, in_volume, with_filter, with_notes, with_volume}
 use Rattle.cf_model.specs.Trees.{Ends}
 use Rattle.cf_model.specs.Waits.{Need, all_down, background_line, begin_now, begin_with, begun, beside, own_id, with_own}
-use Rattle.cf_check_room.specs.Rooms.{is_heavy, sure_count}
-use Rattle.cf_check_room.proofs.Heavy.{fits_more, heavy_below, heavy_longer, needs_heavy}
-use Rattle.cf_check_room.proofs.Loads.{IsWeighed, items_more, pointed, put_weighed, renewed}
+use Rattle.cf_model_room.specs.Rooms.{is_heavy, sure_count}
+use Rattle.cf_model_room.proofs.Heavy.{fits_more, heavy_below, heavy_longer, needs_heavy}
+use Rattle.cf_model_room.proofs.Loads.{IsWeighed, items_more, pointed, put_weighed, renewed}
 use Rattle.cf_check_ways.specs.Ways.{BecomesSure, HadRoom, IsLaden, SamePoints, core_of, sures, Alike, Grown, IsFront, IsPlain, IsSure, IsSureFrom, Parted, SameEnd, fixed_filter, fixed_state, of_filter, of_state, of_volume, without_points}
 use Rattle.cf_check_ways.proofs.Sure.{ends_of_mapped, ends_split, front_here, same_points, stops_of_mapped, plain_noting, plain_quiet, reads_fixed, sure_each, sure_noted, sure_one, sure_reading, sure_ret, sure_seq_from, sure_then}
 

@@ -21,7 +21,7 @@ use Rattle.cf_model.specs.Arrows.{Arrow}
 use Rattle.cf_model.specs.Blocks.{blocks_used}
 use Rattle.cf_model.specs.Items.{Item}
 use Rattle.cf_model.specs.Logs.{items_of}
-use Rattle.cf_check_room.specs.Rooms.{is_heavy, load_since, none_full, sure_count}
+use Rattle.cf_model_room.specs.Rooms.{is_heavy, load_since, none_full, sure_count}
 use Rattle.cf_model.specs.Events.{answer_in, begun}
 use Rattle.cf_model.specs.Numbers.{most}
 use Rattle.cf_model.specs.Points.{Opens}

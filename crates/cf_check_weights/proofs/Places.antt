@@ -6,8 +6,8 @@ use Rattle.std.specs.Prelude.{nat_lt}
 use Rattle.cf_base.specs.declared.changes.Change.{Change}
 use Rattle.cf_base.specs.declared.changes.Change.TheVariants as change
 use Rattle.cf_base.specs.declared.ids.Usn.{Usn}
-use Rattle.cf_check_room.proofs.Heavy.{heavy_says}
-use Rattle.cf_check_room.specs.Rooms.{first_puts, is_heavy, load_from, load_since}
+use Rattle.cf_model_room.proofs.Heavy.{heavy_says}
+use Rattle.cf_model_room.specs.Rooms.{first_puts, is_heavy, load_from, load_since}
 use Rattle.cf_check_weights.proofs.Bounds.{IsRising, both, puts_few, risen, stays_rising, uses_more}
 use Rattle.cf_check_weights.specs.Costs.{cost_of}
 use Rattle.cf_check_weights.specs.Weighed.{heavy_from, heavy_places, is_among, last_weight, makes_above, may_pass, most_weight, next_weight, nothing, since_of, weight_at, weight_of, weights_from}

@@ -6,7 +6,7 @@ ghost use Rattle.cf_base.specs.declared.changes.Change.{Change};
 ghost use Rattle.cf_base.specs.declared.events.Event.{Event};
 ghost use Rattle.cf_base.specs.declared.ids.Usn.{Usn};
 ghost use Rattle.cf_base.specs.declared.policies.Mode.{Mode};
-ghost use Rattle.cf_check_room.specs.Rooms.{is_heavy, load_since, none_full, puts_since, sure_count};
+ghost use Rattle.cf_model_room.specs.Rooms.{is_heavy, load_since, none_full, puts_since, sure_count};
 ghost use Rattle.cf_model.specs.Blocks.{blocks_used};
 ghost use Rattle.cf_model.specs.Changes.{may_need_room};
 ghost use Rattle.cf_model.specs.Lawful.{Runs};

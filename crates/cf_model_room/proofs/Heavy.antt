@@ -16,8 +16,8 @@ use Rattle.cf_model.specs.Lawful.{Runs}
 use Rattle.cf_model.specs.Logs.{after_changes, items_of}
 use Rattle.cf_model.specs.State.{State, Volume, start}
 use Rattle.cf_model.specs.Store.{Held}
-use Rattle.cf_check_room.specs.Rooms.{first_puts, is_heavy, is_heavy_at, load_from, load_since, none_full, none_full_from, puts_since, sure_count}
-use Rattle.cf_check_room.proofs.Loads.{IsWeighed, load_longer, load_next, weighed}
+use Rattle.cf_model_room.specs.Rooms.{first_puts, is_heavy, is_heavy_at, load_from, load_since, none_full, none_full_from, puts_since, sure_count}
+use Rattle.cf_model_room.proofs.Loads.{IsWeighed, load_longer, load_next, weighed}
 
 both : (a b : Bool) → (a && b) ≡ true → (a ≡ true) × (b ≡ true)
 both true b e = (refl, e)

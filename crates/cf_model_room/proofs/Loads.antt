@@ -18,7 +18,7 @@ use Rattle.cf_model.specs.Restarts.{opened_at}
 use Rattle.cf_model.specs.State.{Point, State, Volume, start}
 use Rattle.cf_model.specs.Store.{Held}
 use Rattle.cf_model.proofs.VolumeLaws.{ClosedVolume, runs_keep_volume}
-use Rattle.cf_check_room.specs.Rooms.{load_from, load_since, sure_count}
+use Rattle.cf_model_room.specs.Rooms.{load_from, load_since, sure_count}
 
 -- one change more
 

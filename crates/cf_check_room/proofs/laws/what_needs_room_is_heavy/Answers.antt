@@ -1,5 +1,0 @@
-use Rattle.cf_check_room.proofs.Heavy.{needs_heavy_in_run}
-use Rattle.cf_check_room.proofs.laws.what_needs_room_is_heavy.Goals as goal
-
-pub returns : goal.returns
-returns c = needs_heavy_in_run
