@@ -289,7 +289,7 @@ impl Data {
         ensures crash { Leaves (D.state disk.old) (D.state disk.new) (KeepsWhere IsUsed self.old (D.state disk.old)) }
         ensures size { size_of (D.state disk.new) ≡ size_of (D.state disk.old) }
         ensures powers { (D.state disk.new).powers ≡ (D.state disk.old).powers }
-        ensures quota { (D.state disk.new).quota ≡ (D.state disk.old).quota }
+        ensures settings { (D.state disk.new).settings ≡ (D.state disk.old).settings }
         ensures counts { Counts 4096 result (D.state disk.old) (D.state disk.new) }
         ensures faults { (D.state disk.old).faults ≤ (D.state disk.new).faults }
         ensures calm { may_fail (D.state disk.new).armed ≤ may_fail (D.state disk.old).armed }
@@ -318,7 +318,7 @@ impl Data {
         ensures keeps { Keeps (D.state disk.old) (D.state disk.new) }
         ensures crash { Leaves (D.state disk.old) (D.state disk.new) (D.state disk.old).may_leave }
         ensures powers { (D.state disk.new).powers ≡ (D.state disk.old).powers }
-        ensures quota { (D.state disk.new).quota ≡ (D.state disk.old).quota }
+        ensures settings { (D.state disk.new).settings ≡ (D.state disk.old).settings }
         ensures counts { Counts 0 result (D.state disk.old) (D.state disk.new) }
         ensures cause { Rises result (D.state disk.old) (D.state disk.new) }
         ensures spends { Spends result (D.state disk.old) (D.state disk.new) }

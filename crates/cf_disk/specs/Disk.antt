@@ -2,6 +2,12 @@
 use Rattle.std.specs.Prelude.{Bool, ◌<◌, ◌≡◌, ◌⊎◌, ℕ, ◌+◌, ◌≤◌, ◌-◌, ◌^◌, min, List, [], ◌∷◌, ◌++◌, length, take, drop, get_or, Option, Some, None, Result, IsErr, OnOk, is_ok, true, false, zero, suc, option_map}
 use Rattle.cf_base.specs.declared.policies.Choice.{Choice}
 
+-- What the owner of a disk tells a volume on it: how many blocks of 4,096 bytes it may fill, however many the disk has, and
+-- after how many changes a commit is wanted, if one is.
+pub record Settings : Type 0 where
+  pub quota : ℕ
+  pub aim : Option ℕ
+
 -- what a disk is to its callers
 pub record State : Type 1 where
   -- what a read gives
@@ -22,8 +28,11 @@ pub record State : Type 1 where
   -- the armed number (how many further calls pass, or none armed), where the disk reports it: then exactly the calls
   -- after those fail
   pub armed : Option (Option ℕ)
-  -- how many blocks of 4,096 bytes a volume on it may fill, however many it has
-  pub quota : ℕ
+  pub settings : Settings
+
+-- the disk with another number of changes after which a commit is wanted
+abbrev pub aimed_at : ℕ → State → State
+aimed_at n s = record s { settings = record s.settings { aim = Some n } }
 
 -- in bytes
 abbrev pub size_of : State → ℕ
@@ -61,13 +70,13 @@ abbrev pub Only : List ℕ → State → Type 0
 Only image s = (c : List ℕ) → s.may_leave c → c ≡ image
 
 -- Time goes on: what a crash since t may have left, it may have left before or may leave now; a time that is told was
--- told before, and no image of the past is lost. No power is added, and the quota stays.
+-- told before, and no image of the past is lost. No power is added, and the settings stay.
 pub record Goes (old new : State) : Type 0 where
   pub later : old.moment ≤ new.moment
   pub since : (t : ℕ) (c : List ℕ) → t ≤ old.moment → new.left_since t c → old.left_since t c ⊎ new.may_leave c
   pub told : (t : ℕ) → t ≤ old.moment → new.tells t → old.tells t × ((c : List ℕ) → old.left_since t c → new.left_since t c)
   pub powers : new.powers ≡ old.powers
-  pub quota : new.quota ≡ old.quota
+  pub settings : new.settings ≡ old.settings
 
 -- a count, which stays at the greatest u64
 abbrev pub capped : ℕ → ℕ
@@ -104,7 +113,7 @@ AddsPower choice image old None = Unit {0}
 AddsPower choice image None (Some new) = Unit {0} → ⊥
 AddsPower choice image (Some old) (Some new) = new ≡ old ++ (choice, image) ∷ []
 
--- what a power cut does to the counts, to time and to the quota
+-- what a power cut does to the counts, to time and to the settings
 pub record Powers (choice : Choice) (old new : State) : Type 0 where
   pub size : size_of new ≡ size_of old
   pub later : old.moment ≤ new.moment
@@ -113,7 +122,7 @@ pub record Powers (choice : Choice) (old new : State) : Type 0 where
   pub written : new.written ≡ old.written
   pub faults : new.faults ≡ old.faults
   pub armed : new.armed ≡ option_map (λ _. None) old.armed
-  pub quota : new.quota ≡ old.quota
+  pub settings : new.settings ≡ old.settings
 
 -- Each image that a crash may leave after a call has P, and so has, where the disk reports them, each that a crash
 -- at some moment of the call may have left.
@@ -134,7 +143,7 @@ pub record IsUnchanged (old new : State) : Type 0 where
   pub powers : new.powers ≡ old.powers
   pub written : new.written ≡ old.written
   pub faults : new.faults ≡ old.faults
-  pub quota : new.quota ≡ old.quota
+  pub settings : new.settings ≡ old.settings
 
 -- the armed number after a call
 abbrev pub counted : Option ℕ → Option ℕ

@@ -16,7 +16,7 @@ mem_state d = record {
   written = d.written;
   faults = d.faults;
   armed = Some d.armed;
-  quota = d.quota;
+  settings = record { quota = d.quota; aim = d.aim };
 }
 
 pub one_size : (d : MemDisk) (c : List ℕ) → (mem_state d).may_leave c → length c ≡ size_of (mem_state d)

@@ -36,7 +36,7 @@ trace_state d = record {
   written = d.written;
   faults = d.faults;
   armed = None;
-  quota = 2 ^ 64 - 1;
+  settings = record { quota = 2 ^ 64 - 1; aim = d.aim };
 }
 
 pub one_size : (d : TraceDisk) (c : List ℕ) → (trace_state d).may_leave c → length c ≡ size_of (trace_state d)

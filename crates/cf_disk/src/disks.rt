@@ -1,7 +1,7 @@
 //! What a disk promises.
 
 ghost use Rattle.std.specs.Prelude.{◌≡◌, ◌+◌, ◌≤◌, Some, option_map, List, ℕ, length, OnOk, OnErr};
-ghost use Rattle.cf_disk.specs.Disk.{State, size_of, part, Holds, Keeps, Follows, Only, Goes, Counts, Rises, Powers, IsUnchanged, Spends};
+ghost use Rattle.cf_disk.specs.Disk.{State, aimed_at, size_of, part, Holds, Keeps, Follows, Only, Goes, Counts, Rises, Powers, IsUnchanged, Spends};
 
 use cf_base::Choice;
 
@@ -23,7 +23,7 @@ pub trait Disk {
 
     /// How many blocks of 4,096 bytes a volume on the disk may fill, however many the disk has. No call changes it.
     fn quota(&self) -> u64
-        ensures { result ≡ (state self.now).quota };
+        ensures { result ≡ (state self.now).settings.quota };
 
     /// Reads the bytes from `at` on into `out`. A read changes nothing, also where it fails; then `out` may hold
     /// any bytes.
@@ -69,13 +69,15 @@ pub trait Disk {
         ensures durable { Only (state self.new).seen (state self.new) }
         ensures powers { Powers choice (state self.old) (state self.new) };
 
-    /// Tells that a commit is wanted once so many changes are made. A disk may forget it. Changes nothing else.
+    /// Tells a volume on the disk that a commit is wanted once so many changes are made, in place of what was told before.
+    /// Changes nothing else.
     fn aim(&mut self, changes: u64)
-        ensures same { IsUnchanged (state self.old) (state self.new) }
+        ensures same { IsUnchanged (aimed_at changes (state self.old)) (state self.new) }
         ensures armed { (state self.new).armed ≡ (state self.old).armed };
 
-    /// Whether a commit is wanted once so many changes are made. A volume follows it only where it may commit.
-    fn is_aimed(&self, changes: u64) -> bool;
+    /// After how many changes a commit is wanted, if one is. A volume makes it only where it may commit.
+    fn aimed(&self) -> Option<u64>
+        ensures { result ≡ (state self.now).settings.aim };
 
     /// Where the disk reports the images since a time, those of this moment are among them.
     ghost counts_now: { (disk : Self) (t : ℕ) (c : List ℕ) → t ≤ (state disk).moment → (state disk).tells t → (state disk).may_leave c → (state disk).left_since t c };

@@ -28,14 +28,14 @@ impl MemDisk {
     ghost use Rattle.cf_disk.specs.Disk.{Only};
     ghost use Rattle.cf_disk.specs.MemState.{mem_state};
 
-    /// A disk of so many bytes, all of them zero and durable, with none armed, and with the greatest quota. No later call
+    /// A disk of so many bytes, all of them zero and durable, with none armed, and with the greatest quota and no commit wanted. No later call
     /// takes memory.
     pub fn new(alloc: Global, size: u64) -> Result<MemDisk, OutOfMemory>
         ensures zeros { IfOk result (λ d. (mem_state d).seen ≡ replicate size 0) }
         ensures durable { IfOk result (λ d. Only (mem_state d).seen (mem_state d)) }
         ensures counts { IfOk result (λ d. ((mem_state d).written ≡ 0) × ((mem_state d).faults ≡ 0)) }
         ensures armed { IfOk result (λ d. d.armed ≡ None) }
-        ensures quota { IfOk result (λ d. (mem_state d).quota ≡ 2 ^ 64 - 1) }
+        ensures settings { IfOk result (λ d. (mem_state d).settings ≡ record { quota = 2 ^ 64 - 1; aim = None }) }
     {
         let medium = Medium::new(alloc, size as usize)?;
         Ok(MemDisk {
@@ -118,8 +118,8 @@ impl Disk for MemDisk {
         self.aim = Some(changes);
     }
 
-    fn is_aimed(&self, changes: u64) -> bool {
-        self.aim == Some(changes)
+    fn aimed(&self) -> Option<u64> {
+        self.aim
     }
 
     ghost counts_now = { λ d t c le tells. absurd tells };

@@ -16,7 +16,7 @@ use std::alloc::Global;
 /// A disk in memory that also keeps each `read`, `write` and `sync` since the last power cut, with its bytes, and its first
 /// power cuts. So it tells the images since each time that is not before the last power cut, and the list of its power cuts until
 /// there are more than it has room for. A call that finds no room fails without being done. It does not tell its
-/// armed number, has the greatest quota, and forgets where a commit is wanted.
+/// armed number, and has the greatest quota.
 #[derive(Drop)]
 pub struct TraceDisk {
     medium: Medium,
@@ -26,6 +26,7 @@ pub struct TraceDisk {
     /// How many moments lie before the last power cut, while that can be told.
     before: Option<u64>,
     armed: Option<u32>,
+    aim: Option<u64>,
     faults: u64,
     written: u64,
     ghost whole: { IsWhole medium },
@@ -86,6 +87,7 @@ impl TraceDisk {
             powers: KeptPowers::new(alloc, size as usize, powers as usize)?,
             before: Some(0),
             armed: None,
+            aim: None,
             faults: 0,
             written: 0,
         })
@@ -198,10 +200,12 @@ impl Disk for TraceDisk {
         u64::MAX
     }
 
-    fn aim(&mut self, _changes: u64) {}
+    fn aim(&mut self, changes: u64) {
+        self.aim = Some(changes);
+    }
 
-    fn is_aimed(&self, _changes: u64) -> bool {
-        false
+    fn aimed(&self) -> Option<u64> {
+        self.aim
     }
 
     ghost counts_now = { tells_now };

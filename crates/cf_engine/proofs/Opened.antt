@@ -5,7 +5,7 @@ use Rattle.cf_disk.specs.Disk.{State as Disk, size_of}
 use Rattle.cf_engine.specs.Actors.{Answers, Holds, Stands, Syncing, acts_of, new_engine}
 use Rattle.cf_engine.specs.Engines.{IsSyncing, on_volume}
 use Rattle.cf_engine.specs.Playing.{is_actor}
-use Rattle.cf_filter_events.proofs.Hushed.{same_clusters}
+use Rattle.cf_filter_events.proofs.Hushed.{same_clusters, same_quota}
 use Rattle.cf_filter_events.proofs.Wholes.{on_hands, on_holds}
 use Rattle.cf_filter_events.specs.Meaning.{OnBy}
 use Rattle.cf_filter_events.specs.Pasts.{Past, StandsFor}
@@ -30,7 +30,7 @@ module _ {D R : Type 0} (state : D → Disk) (told : R → Told) where
       record {
         mode = refl;
         quiet = ap (λ (k : Desk). k.notes) stands.desk;
-        disk = record { fit = subst IsFitSize (sym runs.size) fit; clusters = clusters ∙ sym (same_clusters (state d) (state x.disk) runs.size runs.quota); powers = runs.powers ∙ sym powers };
+        disk = record { fit = subst IsFitSize (sym runs.size) fit; clusters = clusters ∙ sym (same_clusters (state d) (state x.disk) runs.size (same_quota (state d) (state x.disk) runs.settings)); powers = runs.powers ∙ sym powers };
         is = subst (λ (b : Bool). OnBy (acts_of told) state b (record { filter = x; actor = p }) s) (sym (ap (λ (k : Desk). k.broken) stands.desk)) on;
       }
 

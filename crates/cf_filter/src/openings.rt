@@ -20,14 +20,6 @@ fn arm_on<D: Disk>(machine: &mut Machine<D>, calls: u32)
     machine.volume.arm(calls);
 }
 
-fn aim_on<D: Disk>(machine: &mut Machine<D>, changes: u64)
-    ensures same { IsUnchanged (D.state machine.old.disk) (D.state machine.new.disk) }
-    ensures known { machine.new.known ≡ machine.old.known }
-    ensures desk { machine.new.desk ≡ machine.old.desk }
-{
-    machine.volume.aim(changes);
-}
-
 impl<D: Disk> Filter<D> {
     ghost use Rattle.std.specs.Prelude.{◌+◌, ◌<◌, ◌⊎◌, ℕ, List, IfErr, IfOk};
     ghost use Rattle.cf_base.specs.declared.changes.Change.{Change};
@@ -120,16 +112,5 @@ impl<D: Disk> Filter<D> {
         ensures desk { self.new.desk ≡ self.old.desk }
     {
         arm_on(&mut self.machine, calls);
-    }
-
-    /// Tells the disk that a commit is wanted once so many changes are made. A hint: nothing is promised of it, and the filter stands for
-    /// what it stood for.
-    pub fn aim(&mut self, changes: u64)
-        ensures stands { (s : model) → Stands D.state self.old s → Stands D.state self.new s }
-        ensures same { IsUnchanged (D.state self.old.disk) (D.state self.new.disk) }
-        ensures known { self.new.known ≡ self.old.known }
-        ensures desk { self.new.desk ≡ self.old.desk }
-    {
-        aim_on(&mut self.machine, changes);
     }
 }

@@ -68,13 +68,16 @@ module _ {D : Type 0} (state : D → Disk) where
   pub stands_noted : (x : Held D) (f : Filter) → x.desk.notes ≡ [] → Stands state x f → Stands state (noted [] x) f
   stands_noted x f quiet h = subst (λ (z : Held D). Stands state z f) (sym (noted_none x quiet)) h
 
-pub same_clusters : (d e : Disk) → size_of e ≡ size_of d → e.quota ≡ d.quota → clusters_for e ≡ clusters_for d
+pub same_clusters : (d e : Disk) → size_of e ≡ size_of d → e.settings.quota ≡ d.settings.quota → clusters_for e ≡ clusters_for d
 same_clusters d e same quota = λ i. min (quota i) ((same i - 3145728) / 4096)
+
+pub same_quota : (d e : Disk) → e.settings ≡ d.settings → e.settings.quota ≡ d.settings.quota
+same_quota d e same = λ i. (same i).quota
 
 -- a call leaves the size and the power cuts of the disk, and the clusters of the volume
 pub disk_moved : (past : Past) (d e : Disk) (v w : Volume) → IsDiskOf past d v → Moved d e v w → IsDiskOf past e w
 disk_moved past d e v w h m = record {
   fit = subst IsFitSize (sym m.runs.size) h.fit;
-  clusters = m.grows.clusters ∙ h.clusters ∙ sym (same_clusters d e m.runs.size m.runs.quota);
+  clusters = m.grows.clusters ∙ h.clusters ∙ sym (same_clusters d e m.runs.size (same_quota d e m.runs.settings));
   powers = m.runs.powers ∙ h.powers;
 }

@@ -12,6 +12,7 @@ use Rattle.cf_filter_events.specs.declared.places.Acting.TheVariants as acting
 use Rattle.cf_filter_events.specs.declared.places.Cut.{Cut}
 use Rattle.cf_filter_events.proofs.Counted.{known_steps}
 use Rattle.cf_filter_events.proofs.Finished.{device_of, off_step}
+use Rattle.cf_filter_events.proofs.Hushed.{same_quota}
 use Rattle.cf_filter_events.proofs.Powers.{disk_again, disk_cut, left_by, one_gained}
 use Rattle.cf_base.specs.declared.answers.Answer.{Answer}
 use Rattle.cf_base.specs.declared.answers.Shown.TheVariants as shown
@@ -22,7 +23,7 @@ use Rattle.cf_base.specs.declared.events.Event.TheVariants as event
 use Rattle.cf_base.specs.declared.memory.OutOfMemory.{OutOfMemory as NoMemory}
 use Rattle.cf_base.specs.declared.policies.Choice.{Choice}
 use Rattle.cf_engine_host.specs.Callbacks.{Answering}
-use Rattle.cf_disk.specs.Disk.{IsUnchanged, Only, Powers, State as Disk, size_of}
+use Rattle.cf_disk.specs.Disk.{IsUnchanged, Only, Powers, State as Disk, aimed_at, size_of}
 use Rattle.cf_journal.specs.Settled.{IsFitSize}
 use Rattle.cf_model.proofs.TraceLaws.{ended_step}
 use Rattle.cf_model.specs.Events.{begun, is_of, needs_volume}
@@ -31,7 +32,7 @@ use Rattle.cf_model.specs.State.{Filter, Off, State}
 
 module _ {D A : Type 0} (acts : Acts A) (state : D → Disk) where
   -- whatever a crash leaves of the one disk it left of the other
-  pub still_off : (past : Past) (x y : Cut D A) (s t : State) → y.policy ≡ x.policy → size_of (state y.disk) ≡ size_of (state x.disk) → (state y.disk).quota ≡ (state x.disk).quota → (state y.disk).powers ≡ (state x.disk).powers → ((c : List ℕ) → (state y.disk).may_leave c → (state x.disk).may_leave c)
+  pub still_off : (past : Past) (x y : Cut D A) (s t : State) → y.policy ≡ x.policy → size_of (state y.disk) ≡ size_of (state x.disk) → (state y.disk).settings.quota ≡ (state x.disk).settings.quota → (state y.disk).powers ≡ (state x.disk).powers → ((c : List ℕ) → (state y.disk).may_leave c → (state x.disk).may_leave c)
       → t.mode ≡ s.mode → t.power ≡ Off → acts.holds y.actor t → t.failed_opens ≡ s.failed_opens → t.filter.volume ≡ s.filter.volume → t.filter.policy ≡ s.filter.policy → IsOff acts state past x s → IsOff acts state past y t
   still_off past x y s t policy size quota powers leaves mode power holds opens volume same off = record {
     mode = mode ∙ off.mode;
@@ -55,7 +56,7 @@ module _ {D A : Type 0} (acts : Acts A) (state : D → Disk) where
   off_left : (past : Past) (x y : Cut D A) (s t : State) → y.policy ≡ x.policy → y.disk ≡ x.disk → LeavesFilter s t → acts.holds y.actor t → IsOff acts state past x s → IsOff acts state past y t
   off_left past x y s t policy disk leaves holds off =
       let size : size_of (state y.disk) ≡ size_of (state x.disk) = ap (λ (d : D). size_of (state d)) disk in
-      let quota : (state y.disk).quota ≡ (state x.disk).quota = ap (λ (d : D). (state d).quota) disk in
+      let quota : (state y.disk).settings.quota ≡ (state x.disk).settings.quota = ap (λ (d : D). (state d).settings.quota) disk in
       let powers : (state y.disk).powers ≡ (state x.disk).powers = ap (λ (d : D). (state d).powers) disk in
       let volume : t.filter.volume ≡ s.filter.volume = ap (λ (f : Filter). f.volume) leaves.filter in
       let same : t.filter.policy ≡ s.filter.policy = ap (λ (f : Filter). f.policy) leaves.filter in
@@ -82,14 +83,14 @@ module _ {D A : Type 0} (answers : Answering A) (acts : Acts A) (actor : IsActor
     leads = λ past s off. (
       begun s,
       ended_step acts.mode s (event.Device (device.Stop n)) shown.Done (begun s) (device_of acts.mode (device.Stop n)) refl (refl, refl),
-      still_off acts state past x y s (begun s) policy (ap length same.seen) same.quota same.powers same.crash refl off.power (held_on x y s (begun s) kept refl refl off.holds) refl refl refl off,
+      still_off acts state past x y s (begun s) policy (ap length same.seen) (same_quota (state x.disk) (state y.disk) same.settings) same.powers same.crash refl off.power (held_on x y s (begun s) kept refl refl off.holds) refl refl refl off,
     );
   }
 
-  -- a disk that is the same to every reader
-  pub aimed_off : (past : Past) (s : State) (x y : Cut D A) → y.policy ≡ x.policy → y.actor ≡ x.actor → IsUnchanged (state x.disk) (state y.disk) → IsOff acts state past x s → IsOff acts state past y s
-  aimed_off past s x y policy kept same off =
-      still_off acts state past x y s s policy (ap length same.seen) same.quota same.powers same.crash refl off.power (held_on x y s s kept refl refl off.holds) refl refl refl off
+  -- a disk that is told where a commit is wanted
+  pub aimed_off : (n : ℕ) (past : Past) (s : State) (x y : Cut D A) → y.policy ≡ x.policy → y.actor ≡ x.actor → IsUnchanged (aimed_at n (state x.disk)) (state y.disk) → IsOff acts state past x s → IsOff acts state past y s
+  aimed_off n past s x y policy kept same off =
+      still_off acts state past x y s s policy (ap length same.seen) (λ i. (same.settings i).quota) same.powers same.crash refl off.power (held_on x y s s kept refl refl off.holds) refl refl refl off
 
   -- one more power cut leaves the point
   off_again : (past : Past) (choice : Choice) (x y : Cut D A) (s : State) → y.policy ≡ x.policy → y.actor ≡ x.actor → (state x.disk).may_leave (state y.disk).seen → Only (state y.disk).seen (state y.disk) → Powers choice (state x.disk) (state y.disk)

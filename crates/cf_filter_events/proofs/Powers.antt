@@ -10,7 +10,7 @@ use Rattle.cf_filter_events.specs.Stepped.{Steps, StepsOver}
 use Rattle.cf_filter_events.specs.declared.places.Acting.TheVariants as acting
 use Rattle.cf_filter_events.specs.declared.places.Cut.{Cut}
 use Rattle.cf_filter_events.proofs.Finished.{device_of}
-use Rattle.cf_filter_events.proofs.Hushed.{same_clusters}
+use Rattle.cf_filter_events.proofs.Hushed.{same_clusters, same_quota}
 use Rattle.cf_base.specs.declared.answers.Shown.TheVariants as shown
 use Rattle.cf_base.specs.declared.codes.Code.{Code}
 use Rattle.cf_base.specs.declared.codes.Code.TheVariants as code
@@ -38,12 +38,12 @@ abbrev pub left_by : Disk → Past
 left_by d = record { told = d.powers; last = Some d.seen }
 
 -- a disk of the same size and quota that had no power cut
-pub disk_again : (past : Past) (d e : Disk) (v : Volume) → size_of e ≡ size_of d → e.quota ≡ d.quota → e.powers ≡ d.powers → IsDiskOf past d v → IsDiskOf past e v
+pub disk_again : (past : Past) (d e : Disk) (v : Volume) → size_of e ≡ size_of d → e.settings.quota ≡ d.settings.quota → e.powers ≡ d.powers → IsDiskOf past d v → IsDiskOf past e v
 disk_again past d e v same quota still h = record { fit = subst IsFitSize (sym same) h.fit; clusters = h.clusters ∙ sym (same_clusters d e same quota); powers = still ∙ h.powers }
 
 -- and one that had a power cut
 pub disk_cut : (past : Past) (choice : Choice) (d e : Disk) (v : Volume) → Powers choice d e → IsDiskOf past d v → IsDiskOf (left_by e) e v
-disk_cut past choice d e v powers h = record { fit = subst IsFitSize (sym powers.size) h.fit; clusters = h.clusters ∙ sym (same_clusters d e powers.size powers.quota); powers = refl }
+disk_cut past choice d e v powers h = record { fit = subst IsFitSize (sym powers.size) h.fit; clusters = h.clusters ∙ sym (same_clusters d e powers.size (same_quota d e powers.settings)); powers = refl }
 
 pub lasting_again : (d e : Disk) (v : Volume) → IsUnchanged d e → Lasts d v → Lasts e v
 lasting_again d e v same h = λ c left. h c (same.crash c left)
@@ -101,7 +101,7 @@ module _ {D A : Type 0} (answers : Answering A) (acts : Acts A) (actor : IsActor
       record {
         mode = on.mode;
         quiet = ap (λ (d : Desk). d.notes) desk ∙ on.quiet;
-        disk = disk_again past (state x.disk) (state y.disk) s.filter.volume (ap length same.seen) same.quota same.powers on.disk;
+        disk = disk_again past (state x.disk) (state y.disk) s.filter.volume (ap length same.seen) (same_quota (state x.disk) (state y.disk) same.settings) same.powers on.disk;
         is = subst (λ (b : Bool). OnBy acts state b (record { filter = y; actor = p }) (begun s)) (sym (ap (λ (d : Desk). d.broken) desk)) (by s x.desk.broken on.is);
       },
     );
@@ -110,20 +110,6 @@ module _ {D A : Type 0} (answers : Answering A) (acts : Acts A) (actor : IsActor
       by : (s : State) (b : Bool) → OnBy acts state b (record { filter = x; actor = p }) s → OnBy acts state b (record { filter = y; actor = p }) (begun s)
       by s true h = (h.0, actor.holds_on p s (begun s) refl refl h.1, ap (λ (d : Desk). d.policy) desk ∙ h.2, lasting_again (state x.disk) (state y.disk) s.filter.volume same h.3, subst (λ (k : Known). Shows k s.filter.volume) (sym known) h.4)
       by s false h = (h.0, actor.stands_on p s (begun s) (record { plan = refl; link = refl; volatile = refl; tokens = refl }) h.1, stands (hushed s.filter) h.2)
-
-  -- a disk that is the same to every reader
-  pub aimed_on : (past : Past) (s : State) (x y : Held D) (p : A) → IsUnchanged (state x.disk) (state y.disk) → ((f : Filter) → Stands state x f → Stands state y f) → y.desk ≡ x.desk → y.known ≡ x.known
-      → IsOn acts state past (record { filter = x; actor = p }) s → IsOn acts state past (record { filter = y; actor = p }) s
-  aimed_on past s x y p same stands desk known on = record {
-    mode = on.mode;
-    quiet = ap (λ (d : Desk). d.notes) desk ∙ on.quiet;
-    disk = disk_again past (state x.disk) (state y.disk) s.filter.volume (ap length same.seen) same.quota same.powers on.disk;
-    is = subst (λ (b : Bool). OnBy acts state b (record { filter = y; actor = p }) s) (sym (ap (λ (d : Desk). d.broken) desk)) (by x.desk.broken on.is);
-  }
-    where
-      by : (b : Bool) → OnBy acts state b (record { filter = x; actor = p }) s → OnBy acts state b (record { filter = y; actor = p }) s
-      by true h = (h.0, h.1, ap (λ (d : Desk). d.policy) desk ∙ h.2, lasting_again (state x.disk) (state y.disk) s.filter.volume same h.3, subst (λ (k : Known). Shows k s.filter.volume) (sym known) h.4)
-      by false h = (h.0, h.1, stands (hushed s.filter) h.2)
 
   -- what the power cut leaves stands for a point
   pub cut_off : (past : Past) (x : D) (y : Cut D A) (choice : Choice) (s : State) → s.mode ≡ acts.mode → acts.holds y.actor s → IsDiskOf past (state x) s.filter.volume → y.policy ≡ s.filter.policy → Lasts (state x) s.filter.volume

@@ -11,6 +11,7 @@ use Rattle.cf_filter_events.specs.Stepped.{PoweredTo, StepsOver, actor_of}
 use Rattle.cf_filter_events.specs.declared.places.Acting.{Acting}
 use Rattle.cf_filter_events.specs.declared.places.Acting.TheVariants as acting
 use Rattle.cf_filter_events.specs.declared.places.Cut.{Cut}
+use Rattle.cf_filter_events.proofs.Hushed.{same_quota}
 use Rattle.cf_filter_events.proofs.Finished.{device_of}
 use Rattle.cf_filter_events.proofs.Later.{kept_later}
 use Rattle.cf_filter_events.proofs.Offs.{held_on, still_off}
@@ -173,8 +174,8 @@ module _ {D A : Type 0} (answers : Answering A) (acts : Acts A) (actor : IsActor
           mode = off.mode;
           quiet = ap (λ (d : Desk). d.notes) here.desk;
           disk = record {
-            fit = (disk_again past (state x.disk) (state y.disk) v runs.size runs.quota runs.powers off.disk).fit;
-            clusters = (disk_again past (state x.disk) (state y.disk) v runs.size runs.quota runs.powers off.disk).clusters;
+            fit = (disk_again past (state x.disk) (state y.disk) v runs.size (same_quota (state x.disk) (state y.disk) runs.settings) runs.powers off.disk).fit;
+            clusters = (disk_again past (state x.disk) (state y.disk) v runs.size (same_quota (state x.disk) (state y.disk) runs.settings) runs.powers off.disk).clusters;
             powers = runs.powers ∙ off.disk.powers;
           };
           is = subst (λ (b : Bool). OnBy acts state b (record { filter = y; actor = q }) t) (sym (ap (λ (d : Desk). d.broken) here.desk)) on;
@@ -199,8 +200,8 @@ module _ {D A : Type 0} (answers : Answering A) (acts : Acts A) (actor : IsActor
           holds = held_on answers acts actor state x y s t kept refl refl off.holds;
           policy = policy ∙ off.policy;
           disk = record {
-            fit = (disk_again past (state x.disk) (state y.disk) s.filter.volume runs.size runs.quota runs.powers off.disk).fit;
-            clusters = (disk_again past (state x.disk) (state y.disk) s.filter.volume runs.size runs.quota runs.powers off.disk).clusters;
+            fit = (disk_again past (state x.disk) (state y.disk) s.filter.volume runs.size (same_quota (state x.disk) (state y.disk) runs.settings) runs.powers off.disk).fit;
+            clusters = (disk_again past (state x.disk) (state y.disk) s.filter.volume runs.size (same_quota (state x.disk) (state y.disk) runs.settings) runs.powers off.disk).clusters;
             powers = runs.powers ∙ off.disk.powers;
           };
           point = off.point;
@@ -268,7 +269,7 @@ module _ {D A : Type 0} (answers : Answering A) (acts : Acts A) (actor : IsActor
     leads = λ past s off.
         let at = found past x s off reads in
         let same = unwritten (inr spent) in
-        let after : IsOff acts state past y (begun s) = still_off acts state past x y s (begun s) policy runs.size runs.quota runs.powers same.keeps.crash refl off.power (held_on answers acts actor state x y s (begun s) kept refl refl off.holds) refl refl refl off in
+        let after : IsOff acts state past y (begun s) = still_off acts state past x y s (begun s) policy runs.size (same_quota (state x.disk) (state y.disk) runs.settings) runs.powers same.keeps.crash refl off.power (held_on answers acts actor state x y s (begun s) kept refl refl off.holds) refl refl refl off in
         let r = exhausted_to past x y s off at.taken at.few (last (s.filter.volume.epoch + at.taken) (take off.point.count s.filter.volume.log) off.point.book at.stands spent) after in
         subst (λ (k : Code). PoweredTo acts.mode (Is acts state) past (event.Device device.Restart) s (Ok (answer_with (shown.Refused k) [])) (acting.Off y)) (sym spent) r;
   }

@@ -9,7 +9,7 @@ use Rattle.cf_filter_events.specs.Stepped.{Bears, Steps, StepsOver, actor_of}
 use Rattle.cf_filter_events.specs.declared.places.Acting.{Acting}
 use Rattle.cf_filter_events.specs.declared.places.Acting.TheVariants as acting
 use Rattle.cf_filter_events.specs.declared.places.Cut.{Cut}
-use Rattle.cf_filter_events.proofs.Hushed.{same_clusters}
+use Rattle.cf_filter_events.proofs.Hushed.{same_clusters, same_quota}
 use Rattle.cf_base.specs.declared.answers.Answer.{Answer}
 use Rattle.cf_base.specs.declared.events.Event.{Event}
 use Rattle.cf_base.specs.declared.events.Event.TheVariants as event
@@ -76,7 +76,7 @@ module _ {D A : Type 0} (acts : Acts A) (state : D → Disk) where
       record {
         mode = refl;
         quiet = ap (λ (k : Desk). k.notes) stands.desk;
-        disk = record { fit = subst IsFitSize (sym runs.size) fit; clusters = sym (same_clusters (state d) (state x.disk) runs.size runs.quota); powers = runs.powers ∙ sym told };
+        disk = record { fit = subst IsFitSize (sym runs.size) fit; clusters = sym (same_clusters (state d) (state x.disk) runs.size (same_quota (state d) (state x.disk) runs.settings)); powers = runs.powers ∙ sym told };
         is = subst (λ (b : Bool). OnBy acts state b (record { filter = x; actor = p }) s) (sym (ap (λ (k : Desk). k.broken) stands.desk)) on;
       }
 

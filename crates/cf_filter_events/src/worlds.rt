@@ -77,13 +77,12 @@ impl<D: Disk, A: Actor> Acting<D, A> {
         }
     }
 
-    /// Tells the disk that a commit is wanted once so many changes are made. A hint: nothing is promised of it, and the world stands for
-    /// what it stood for.
+    /// Tells the disk of a volume that is off that a commit is wanted once so many changes are made. While a volume is on it does nothing.
     pub fn aim(&mut self, changes: u64)
         ensures { (past : Past) (s : State) → Is A.acts D.state past self.old s → Is A.acts D.state past self.new s }
     {
         match self {
-            Acting::On(running) => running.filter.aim(changes),
+            Acting::On(_running) => {}
             Acting::Off(cut) => cut.disk.aim(changes),
         }
     }

@@ -33,7 +33,7 @@ grows_book v b = record { epoch = refl; clusters = refl; more = []; log = sym (a
 
 pub book_moved : (d : State) (v : Volume) (b : Book) → Lasts d v → Moved d d v (record v { book = b })
 book_moved d v b lasts = record {
-  runs = record { size = refl; quota = refl; powers = refl; faults = omega arith; calm = omega arith };
+  runs = record { size = refl; settings = refl; powers = refl; faults = omega arith; calm = omega arith };
   grows = grows_book v b;
   leaves = record {
     later = omega arith;

@@ -45,7 +45,7 @@ grows_on u v w f g = record {
 
 pub no_move : (d : State) (v : Volume) → Lasts d v → Moved d d v v
 no_move d v lasts = record {
-  runs = record { size = refl; quota = refl; powers = refl; faults = omega arith; calm = omega arith };
+  runs = record { size = refl; settings = refl; powers = refl; faults = omega arith; calm = omega arith };
   grows = grows_not v;
   leaves = record {
     later = omega arith;
@@ -59,7 +59,7 @@ stays_put d k v fair at kept = no_move d v (lasts_at d k v fair at kept)
 
 pub moved_on : (d e f : State) (u v w : Volume) → Moved d e u v → Moved e f v w → Moved d f u w
 moved_on d e f u v w m n = record {
-  runs = record { size = n.runs.size ∙ m.runs.size; quota = n.runs.quota ∙ m.runs.quota; powers = n.runs.powers ∙ m.runs.powers; faults = let a = m.runs.faults in let b = n.runs.faults in omega (arith, a, b); calm = let a = m.runs.calm in let b = n.runs.calm in omega (arith, a, b) };
+  runs = record { size = n.runs.size ∙ m.runs.size; settings = n.runs.settings ∙ m.runs.settings; powers = n.runs.powers ∙ m.runs.powers; faults = let a = m.runs.faults in let b = n.runs.faults in omega (arith, a, b); calm = let a = m.runs.calm in let b = n.runs.calm in omega (arith, a, b) };
   grows = grows_on u v w m.grows n.grows;
   leaves = leaves_then d e f (IsBetween u w) (IsBetween v w)
       (leaves_weaker d e (IsBetween u v) (IsBetween u w) m.leaves (λ c b. record { mid = b.mid; after = b.after; before = grows_on b.mid v w b.before n.grows; stands = b.stands }))

@@ -10,7 +10,7 @@ use Rattle.cf_journal.specs.SlotTexts.{IsSlotText}
 use Rattle.cf_journal.specs.Steps.{ReadsOnly}
 
 pub reads_call : {T E : Type 0} (r : Result T E) (a b : State) → Keeps a b → Goes a b → Counts 0 r a b → Rises r a b → ReadsOnly a b
-reads_call r a b keeps goes counts rises = record { keeps = keeps; leaves = leaves_keep a b keeps goes; written = omega (arith, counts.least, counts.most); powers = goes.powers; quota = goes.quota; faults = rises.least; calm = rises.calm }
+reads_call r a b keeps goes counts rises = record { keeps = keeps; leaves = leaves_keep a b keeps goes; written = omega (arith, counts.least, counts.most); powers = goes.powers; settings = goes.settings; faults = rises.least; calm = rises.calm }
 
 pub reads_then : (a b c : State) → ReadsOnly a b → ReadsOnly b c → ReadsOnly a c
 reads_then a b c p q = record {
@@ -18,7 +18,7 @@ reads_then a b c p q = record {
   leaves = leaves_then a b c a.may_leave b.may_leave p.leaves q.leaves p.keeps.crash;
   written = q.written ∙ p.written;
   powers = q.powers ∙ p.powers;
-  quota = q.quota ∙ p.quota;
+  settings = q.settings ∙ p.settings;
   faults = omega (arith, p.faults, q.faults);
   calm = omega (arith, p.calm, q.calm);
 }

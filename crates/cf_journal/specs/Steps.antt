@@ -34,6 +34,6 @@ pub record ReadsOnly (old new : State) : Type 0 where
   pub leaves : Leaves old new old.may_leave
   pub written : new.written ≡ old.written
   pub powers : new.powers ≡ old.powers
-  pub quota : new.quota ≡ old.quota
+  pub settings : new.settings ≡ old.settings
   pub faults : old.faults ≤ new.faults
   pub calm : may_fail new.armed ≤ may_fail old.armed

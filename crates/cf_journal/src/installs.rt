@@ -34,7 +34,7 @@ pub(crate) fn install<D: Disk>(
     ensures cause { Rises result (D.state disk.old) (D.state disk.new) }
     ensures same_size { size_of (D.state disk.new) ≡ size_of (D.state disk.old) }
     ensures powers { (D.state disk.new).powers ≡ (D.state disk.old).powers }
-    ensures quota { (D.state disk.new).quota ≡ (D.state disk.old).quota }
+    ensures settings { (D.state disk.new).settings ≡ (D.state disk.old).settings }
 {
     let size = disk.size();
     let at = base_of(other_of(side));

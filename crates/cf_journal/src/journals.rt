@@ -97,7 +97,7 @@ impl Journal {
         ensures counts { Counts (6 + length payload.now) result (D.state disk.old) (D.state disk.new) }
         ensures same_size { size_of (D.state disk.new) ≡ size_of (D.state disk.old) }
         ensures powers { (D.state disk.new).powers ≡ (D.state disk.old).powers }
-        ensures quota { (D.state disk.new).quota ≡ (D.state disk.old).quota }
+        ensures settings { (D.state disk.new).settings ≡ (D.state disk.old).settings }
         ensures cause { IfErr result (λ e. IsCause e self.old (D.state disk.old) (D.state disk.new)) }
         ensures faults { (D.state disk.old).faults ≤ (D.state disk.new).faults }
         ensures calm { may_fail (D.state disk.new).armed ≤ may_fail (D.state disk.old).armed }
@@ -133,7 +133,7 @@ impl Journal {
         ensures counts { Counts (30 + length image.now) result (D.state disk.old) (D.state disk.new) }
         ensures same_size { size_of (D.state disk.new) ≡ size_of (D.state disk.old) }
         ensures powers { (D.state disk.new).powers ≡ (D.state disk.old).powers }
-        ensures quota { (D.state disk.new).quota ≡ (D.state disk.old).quota }
+        ensures settings { (D.state disk.new).settings ≡ (D.state disk.old).settings }
         ensures cause { IfErr result (λ e. IsCause e self.old (D.state disk.old) (D.state disk.new)) }
         ensures faults { (D.state disk.old).faults ≤ (D.state disk.new).faults }
         ensures calm { may_fail (D.state disk.new).armed ≤ may_fail (D.state disk.old).armed }
@@ -170,7 +170,7 @@ impl Journal {
         ensures counts { Counts (32 + length image.now) result (D.state disk.old) (D.state disk.new) }
         ensures same_size { size_of (D.state disk.new) ≡ size_of (D.state disk.old) }
         ensures powers { (D.state disk.new).powers ≡ (D.state disk.old).powers }
-        ensures quota { (D.state disk.new).quota ≡ (D.state disk.old).quota }
+        ensures settings { (D.state disk.new).settings ≡ (D.state disk.old).settings }
         ensures cause { IfErr result (λ e. (e ≡ JournalError.Failed) × IsOpenCause e (D.state disk.old) (D.state disk.new)) }
         ensures faults { (D.state disk.old).faults ≤ (D.state disk.new).faults }
         ensures calm { may_fail (D.state disk.new).armed ≤ may_fail (D.state disk.old).armed }

@@ -19,7 +19,7 @@ pub(crate) fn put<D: Disk>(disk: &mut D, at: u64, bytes: &[u8]) -> Result<(), Di
     ensures counts { Counts (length bytes.now) result (D.state disk.old) (D.state disk.new) }
     ensures cause { Rises result (D.state disk.old) (D.state disk.new) }
     ensures powers { (D.state disk.new).powers ≡ (D.state disk.old).powers }
-    ensures quota { (D.state disk.new).quota ≡ (D.state disk.old).quota }
+    ensures settings { (D.state disk.new).settings ≡ (D.state disk.old).settings }
 {
     disk.write(at, bytes)?;
     disk.sync()?;
@@ -38,7 +38,7 @@ pub(crate) fn put_record<D: Disk>(disk: &mut D, at: u64, payload: &[u8]) -> Resu
     ensures cause { Rises result (D.state disk.old) (D.state disk.new) }
     ensures same_size { size_of (D.state disk.new) ≡ size_of (D.state disk.old) }
     ensures powers { (D.state disk.new).powers ≡ (D.state disk.old).powers }
-    ensures quota { (D.state disk.new).quota ≡ (D.state disk.old).quota }
+    ensures settings { (D.state disk.new).settings ≡ (D.state disk.old).settings }
 {
     let len = (payload.len() as u32).to_be_bytes();
     let behind = at + 4 + payload.len() as u64;
@@ -61,7 +61,7 @@ pub(crate) fn close<D: Disk>(disk: &mut D, at: u64) -> Result<(), DiskError>
     ensures cause { Rises result (D.state disk.old) (D.state disk.new) }
     ensures same_size { size_of (D.state disk.new) ≡ size_of (D.state disk.old) }
     ensures powers { (D.state disk.new).powers ≡ (D.state disk.old).powers }
-    ensures quota { (D.state disk.new).quota ≡ (D.state disk.old).quota }
+    ensures settings { (D.state disk.new).settings ≡ (D.state disk.old).settings }
 {
     let mut gate = [1u8; 1];
     disk.read(at, &mut gate)?;
@@ -91,7 +91,7 @@ pub(crate) fn stage<D: Disk>(
     ensures cause { Rises result (D.state disk.old) (D.state disk.new) }
     ensures same_size { size_of (D.state disk.new) ≡ size_of (D.state disk.old) }
     ensures powers { (D.state disk.new).powers ≡ (D.state disk.old).powers }
-    ensures quota { (D.state disk.new).quota ≡ (D.state disk.old).quota }
+    ensures settings { (D.state disk.new).settings ≡ (D.state disk.old).settings }
 {
     disk.write(at + 1, header)?;
     disk.write(at + 4096, image)?;
@@ -113,7 +113,7 @@ pub(crate) fn close_both<D: Disk>(disk: &mut D, first: u64, second: u64) -> Resu
     ensures counts { Counts 2 result (D.state disk.old) (D.state disk.new) }
     ensures cause { Rises result (D.state disk.old) (D.state disk.new) }
     ensures powers { (D.state disk.new).powers ≡ (D.state disk.old).powers }
-    ensures quota { (D.state disk.new).quota ≡ (D.state disk.old).quota }
+    ensures settings { (D.state disk.new).settings ≡ (D.state disk.old).settings }
 {
     disk.write(first, &[0])?;
     put(disk, second, &[0])?;

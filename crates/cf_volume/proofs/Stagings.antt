@@ -24,13 +24,13 @@ use Rattle.cf_volume_points.specs.declared.stops.Stop.TheVariants.{Device, OutOf
 use Rattle.cf_volume_points.specs.Runs.{IsStop, Ran}
 
 pub ran_none : (s : State) → Ran 0 s s
-ran_none s = record { size = refl; powers = refl; quota = refl; faults = omega arith; calm = omega arith; written = omega arith }
+ran_none s = record { size = refl; powers = refl; settings = refl; faults = omega arith; calm = omega arith; written = omega arith }
 
 pub ran_then : (n m : ℕ) (s t u : State) → Ran n s t → Ran m t u → Ran (n + m) s u
-ran_then n m s t u p q = record { size = q.size ∙ p.size; powers = q.powers ∙ p.powers; quota = q.quota ∙ p.quota; faults = omega (arith, p.faults, q.faults); calm = omega (arith, p.calm, q.calm); written = omega (arith, p.written, q.written) }
+ran_then n m s t u p q = record { size = q.size ∙ p.size; powers = q.powers ∙ p.powers; settings = q.settings ∙ p.settings; faults = omega (arith, p.faults, q.faults); calm = omega (arith, p.calm, q.calm); written = omega (arith, p.written, q.written) }
 
 pub ran_less : (n m : ℕ) (s t : State) → n ≤ m → Ran n s t → Ran m s t
-ran_less n m s t le p = record { size = p.size; powers = p.powers; quota = p.quota; faults = p.faults; calm = p.calm; written = omega (arith, le, p.written) }
+ran_less n m s t le p = record { size = p.size; powers = p.powers; settings = p.settings; faults = p.faults; calm = p.calm; written = omega (arith, le, p.written) }
 
 -- a list of numbers that rise has none twice
 before_rising : (low : ℕ) (bs : List ℕ) (i d : ℕ) → AreRising low bs → i < length bs → low ≤ get_or bs i d

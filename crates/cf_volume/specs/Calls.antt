@@ -48,7 +48,7 @@ IsCause (No code) s t = code ≡ Device → HasFailed s t
 pub record Runs (s t : State) : Type 0 where
   pub size : size_of t ≡ size_of s
   pub powers : t.powers ≡ s.powers
-  pub quota : t.quota ≡ s.quota
+  pub settings : t.settings ≡ s.settings
   pub faults : s.faults ≤ t.faults
   pub calm : may_fail t.armed ≤ may_fail s.armed
 

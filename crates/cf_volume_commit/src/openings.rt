@@ -100,7 +100,7 @@ pub(crate) fn raise<D: Disk>(alloc: Global, disk: &mut D, parts: &mut Parts) -> 
     ensures counts { Counts (bytes_written parts.old.journal (Some (spell_payload (payload_of parts.old.contents [] [] [] []))) (spell_image (image_of parts.old.contents))) result (D.state disk.old) (D.state disk.new) }
     ensures same_size { size_of (D.state disk.new) ≡ size_of (D.state disk.old) }
     ensures powers { (D.state disk.new).powers ≡ (D.state disk.old).powers }
-    ensures quota { (D.state disk.new).quota ≡ (D.state disk.old).quota }
+    ensures settings { (D.state disk.new).settings ≡ (D.state disk.old).settings }
     ensures faults { (D.state disk.old).faults ≤ (D.state disk.new).faults }
     ensures calm { may_fail (D.state disk.new).armed ≤ may_fail (D.state disk.old).armed }
     ensures cause { IfErr result (λ e. IsStop e (D.state disk.old) (D.state disk.new)) }
@@ -206,7 +206,7 @@ pub fn load<D: Disk>(alloc: Global, disk: &mut D) -> Result<Parts, CallError>
     ensures at_most { (D.state disk.new).written ≤ (D.state disk.old).written + 1306654 }
     ensures same_size { size_of (D.state disk.new) ≡ size_of (D.state disk.old) }
     ensures powers { (D.state disk.new).powers ≡ (D.state disk.old).powers }
-    ensures quota { (D.state disk.new).quota ≡ (D.state disk.old).quota }
+    ensures settings { (D.state disk.new).settings ≡ (D.state disk.old).settings }
     ensures faults { (D.state disk.old).faults ≤ (D.state disk.new).faults }
     ensures calm { may_fail (D.state disk.new).armed ≤ may_fail (D.state disk.old).armed }
     ensures cause { result ≡ Err (fail.No code.Device) → HasFailed (D.state disk.old) (D.state disk.new) }

@@ -82,7 +82,7 @@ pub fn save<D: Disk>(
     ensures counts { Counts (bytes_written journal.old (text_of then.now contents.now) (spell_image (image_of contents.now))) result (D.state disk.old) (D.state disk.new) }
     ensures same_size { size_of (D.state disk.new) ≡ size_of (D.state disk.old) }
     ensures powers { (D.state disk.new).powers ≡ (D.state disk.old).powers }
-    ensures quota { (D.state disk.new).quota ≡ (D.state disk.old).quota }
+    ensures settings { (D.state disk.new).settings ≡ (D.state disk.old).settings }
     ensures faults { (D.state disk.old).faults ≤ (D.state disk.new).faults }
     ensures calm { may_fail (D.state disk.new).armed ≤ may_fail (D.state disk.old).armed }
     ensures cause { IfErr result (λ e. IsStop e (D.state disk.old) (D.state disk.new)) }

@@ -8,7 +8,7 @@ use Rattle.cf_volume_points.specs.declared.stops.Stop.TheVariants.{Device, OutOf
 pub record Ran (n : ℕ) (s t : State) : Type 0 where
   pub size : size_of t ≡ size_of s
   pub powers : t.powers ≡ s.powers
-  pub quota : t.quota ≡ s.quota
+  pub settings : t.settings ≡ s.settings
   pub faults : s.faults ≤ t.faults
   pub calm : may_fail t.armed ≤ may_fail s.armed
   pub written : t.written ≤ s.written + n

@@ -27,7 +27,7 @@ cluster_on disk k = part (place k) 4096 disk
 
 -- how many clusters a volume on the disk may use, whose quota may be less than there are
 abbrev pub clusters_for : State → ℕ
-clusters_for s = min s.quota (clusters_on s.seen)
+clusters_for s = min s.settings.quota (clusters_on s.seen)
 
 -- the book keeps no anchor and no access of an item that is not there
 abbrev pub IsBookOf : List Item → Book → Type 0

@@ -9,13 +9,13 @@ pub returns-then-not-is_listed-clause-crash : goal.returns-then-not-is_listed-cl
 returns-then-not-is_listed-clause-crash g c = λ v at. still (g.D.Disk.state c.args.volume.now.disk) v (λ m left. c.last_point.ensures v at m left)
 
 pub returns-then-not-is_listed-clause-runs : goal.returns-then-not-is_listed-clause-runs
-returns-then-not-is_listed-clause-runs g c = record { size = refl; quota = refl; powers = refl; faults = omega arith; calm = omega arith }
+returns-then-not-is_listed-clause-runs g c = record { size = refl; settings = refl; powers = refl; faults = omega arith; calm = omega arith }
 
 pub returns-then-not-fits-clause-crash : goal.returns-then-not-fits-clause-crash
 returns-then-not-fits-clause-crash g c = λ v at. still (g.D.Disk.state c.args.volume.now.disk) v (λ m left. c.last_point.ensures v at m left)
 
 pub returns-then-not-fits-clause-runs : goal.returns-then-not-fits-clause-runs
-returns-then-not-fits-clause-runs g c = record { size = refl; quota = refl; powers = refl; faults = omega arith; calm = omega arith }
+returns-then-not-fits-clause-runs g c = record { size = refl; settings = refl; powers = refl; faults = omega arith; calm = omega arith }
 
 pub apply-requires-clause-fits : goal.apply-requires-clause-fits
 apply-requires-clause-fits g c = c.fits.ensures.fits c.if-not-fits.false

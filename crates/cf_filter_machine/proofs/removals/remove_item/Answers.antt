@@ -81,7 +81,7 @@ returns-in-Some-clause-fits g c = λ v i at there other keeps graves.
     on_ok_map c.put_grave.result (λ usable. one_fits c.args.bury c.args.item i v keeps grave.0 grave.2 (subst FitsUsn (c.in_ok-number.ensures.number v at) c.put_grave.ensures.fits) graves) c.put_grave.ensures.usable
 
 pub returns-in_err-grave-clause-runs : goal.returns-in_err-grave-clause-runs
-returns-in_err-grave-clause-runs g c = record { size = refl; quota = refl; powers = refl; faults = omega arith; calm = omega arith }
+returns-in_err-grave-clause-runs g c = record { size = refl; settings = refl; powers = refl; faults = omega arith; calm = omega arith }
 
 pub returns-in-Some-clause-runs : goal.returns-in-Some-clause-runs
 returns-in-Some-clause-runs g c = subst (λ (z : _). Runs (g.D.Disk.state c.args.volume.now.disk) (g.D.Disk.state z)) (sym c.put_grave.ensures.disk) c.in_ok-number.ensures.runs

@@ -55,5 +55,5 @@ returns-clause-powers c = record {
   written = refl;
   faults = refl;
   armed = refl;
-  quota = refl;
+  settings = refl;
 }

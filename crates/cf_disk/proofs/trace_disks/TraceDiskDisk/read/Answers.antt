@@ -26,5 +26,5 @@ returns-clause-goes c =
       since = λ t image le left. since_push start c.args.self.now.medium calls c.push-2.new.self.calls _ pushed traced c.args.self.now.before t image left;
       told = λ t le tells. (tells, λ image left. kept_push start c.args.self.now.medium calls c.push-2.new.self.calls _ pushed traced c.args.self.now.before t image left);
       powers = refl;
-      quota = refl;
+      settings = refl;
     }

@@ -41,5 +41,5 @@ returns-clause-crash g c =
 pub returns-clause-powers : goal.returns-clause-powers
 returns-clause-powers g c = c.install.ensures.powers ∙ c.close_both.ensures.powers
 
-pub returns-clause-quota : goal.returns-clause-quota
-returns-clause-quota g c = c.install.ensures.quota ∙ c.close_both.ensures.quota
+pub returns-clause-settings : goal.returns-clause-settings
+returns-clause-settings g c = c.install.ensures.settings ∙ c.close_both.ensures.settings
