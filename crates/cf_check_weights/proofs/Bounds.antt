@@ -1,30 +1,32 @@
 -- What the changes of a log cost bounds what it weighs, where each item that is made has a greater number than all before it.
 use Rattle.std.proofs.Common.{◌≡◌, ◌≤◌, ◌<◌, ◌+◌, ◌-◌, ◌/◌, ◌&&◌, not, ℕ, zero, suc, Bool, true, false, cond, filter, List, [], ◌∷◌, ◌++◌, length, max, min, refl, sym, ap, subst, arith, append-nil}
 use Rattle.std.specs.Prelude.{Option, Some, None, sum_by, ◌==◌}
-use Rattle.std.proofs.lemmas.Bool.{eqb-true, ltb-true}
-use Rattle.std.proofs.lemmas.List.Sums.{sum_by-append, sum_by-cons}
+use Rattle.std.proofs.lemmas.Bool.{ltb-true}
+use Rattle.std.proofs.lemmas.List.Sums.{sum_by-cons}
 use Rattle.cf_base.specs.declared.changes.Change.{Change}
 use Rattle.cf_base.specs.declared.changes.Change.TheVariants as change
 use Rattle.cf_base.specs.declared.ids.ItemId.{ItemId}
 use Rattle.cf_base.specs.declared.ids.Usn.{Usn}
-use Rattle.cf_base.specs.declared.items.Pin.{Pin}
-use Rattle.cf_base.specs.declared.items.Pin.TheVariants as pin
-use Rattle.cf_check_weights.proofs.Blocks.{counting_length, held_after, none_here}
+use Rattle.cf_volume_room.proofs.Blocks.{counting_length}
+use Rattle.cf_volume_room.specs.Rising.{AreRising}
 use Rattle.cf_check_weights.specs.Costs.{cost_of, made_by}
 use Rattle.cf_check_weights.specs.Weighed.{greater, last_weight, makes_above, next_weight, weights_from}
 use Rattle.cf_check_weights.specs.declared.weights.Weight.{Weight}
 use Rattle.cf_model.specs.Blocks.{blocks_held, blocks_of, blocks_used, held_of, lacks_in, puts_into, size_at}
-use Rattle.cf_model.specs.Effects.{changed, copied, copies, effect, made, size_made, without}
+use Rattle.cf_model.specs.Effects.{changed, copied, copies, effect, made, without}
 use Rattle.cf_model.specs.Items.{Item, item_of, pin_of}
 use Rattle.cf_model.specs.Logs.{after_changes}
 use Rattle.cf_model.specs.Words.{part}
-use Rattle.cf_table.specs.Applied.{item_effect}
-use Rattle.cf_volume_blocks.specs.Bytes.{puts_in}
 
 -- the items stand in order of their numbers, from low on, and none is above the greatest
 abbrev pub IsRising : ℕ → List Item → ℕ → Type 0
 IsRising low [] g = Unit {0}
 IsRising low (i ∷ is) g = (low ≤ i.id.0) × (i.id.0 ≤ g) × IsRising (i.id.0 + 1) is g
+
+-- so they stand in order
+pub in_order : (low : ℕ) (items : List Item) (g : ℕ) → IsRising low items g → AreRising low items
+in_order low [] g r = record {}
+in_order low (i ∷ is) g r = (r.0, in_order (i.id.0 + 1) is g r.2)
 
 abbrev used : Item → ℕ
 used i = blocks_held i.held
@@ -57,48 +59,6 @@ rising_without low key (x ∷ xs) g r = by (x.id.0 == key.0) (rising_without (x.
     by true rest = let at : low ≤ x.id.0 = r.0 in rising_lower low (x.id.0 + 1) (without key xs) g (omega (arith, at)) rest
     by false rest = (r.0, r.1, rest)
 
--- sums
-
--- items above a number have none with it
-apart : (key : ItemId) (f : Item → Item) (low : ℕ) (items : List Item) (g : ℕ) → key.0 < low → IsRising low items g → changed key f items ≡ items
-apart key f low [] g lt r = refl
-apart key f low (x ∷ xs) g lt r = let le : low ≤ x.id.0 = r.0 in by (x.id.0 == key.0) refl (apart key f (x.id.0 + 1) xs g (omega (arith, le, lt)) r.2)
-  where
-    by : (t : Bool) → (x.id.0 == key.0) ≡ t → changed key f xs ≡ xs → cond t (f x) x ∷ changed key f xs ≡ x ∷ xs
-    by true e rest = let at : x.id.0 ≡ key.0 = eqb-true x.id.0 key.0 e in let le : low ≤ x.id.0 = r.0 in absurd (omega (arith, at, le, lt))
-    by false e rest = ap (λ (is : List Item). x ∷ is) rest
-
--- the item of a number becomes greater by so many at most
-sum_changed : (key : ItemId) (f : Item → Item) (more low : ℕ) (items : List Item) (g : ℕ) → IsRising low items g → ((i : Item) → item_of items key ≡ Some i → used (f i) ≤ used i + more) → sum_by used (changed key f items) ≤ sum_by used items + more
-sum_changed key f more low [] g r few = omega arith
-sum_changed key f more low (x ∷ xs) g r few = by (x.id.0 == key.0) refl few (λ h. sum_changed key f more (x.id.0 + 1) xs g r.2 h)
-  where
-    whole : sum_by used (x ∷ xs) ≡ used x + sum_by used xs
-    whole = sum_by-cons used x xs
-
-    by : (t : Bool) → (x.id.0 == key.0) ≡ t → ((i : Item) → cond t (Some x) (item_of xs key) ≡ Some i → used (f i) ≤ used i + more) → (((i : Item) → item_of xs key ≡ Some i → used (f i) ≤ used i + more) → sum_by used (changed key f xs) ≤ sum_by used xs + more) → sum_by used (cond t (f x) x ∷ changed key f xs) ≤ sum_by used (x ∷ xs) + more
-    by true e h later =
-        let at : x.id.0 ≡ key.0 = eqb-true x.id.0 key.0 e in
-        let rest : sum_by used (changed key f xs) ≡ sum_by used xs = ap (λ (is : List Item). sum_by used is) (apart key f (x.id.0 + 1) xs g (omega (arith, at)) r.2) in
-        let first : used (f x) ≤ used x + more = h x refl in
-        let new : sum_by used (f x ∷ changed key f xs) ≡ used (f x) + sum_by used (changed key f xs) = sum_by-cons used (f x) (changed key f xs) in
-        omega (arith, rest, first, new, whole)
-    by false e h later =
-        let rest : sum_by used (changed key f xs) ≤ sum_by used xs + more = later h in
-        let new : sum_by used (x ∷ changed key f xs) ≡ used x + sum_by used (changed key f xs) = sum_by-cons used x (changed key f xs) in
-        omega (arith, rest, new, whole)
-
-sum_without : (key : ItemId) (items : List Item) → sum_by used (without key items) ≤ sum_by used items
-sum_without key [] = omega arith
-sum_without key (x ∷ xs) = by (x.id.0 == key.0) (sum_without key xs)
-  where
-    whole : sum_by used (x ∷ xs) ≡ used x + sum_by used xs
-    whole = sum_by-cons used x xs
-
-    by : (t : Bool) → sum_by used (without key xs) ≤ sum_by used xs → sum_by used (cond (not t) (x ∷ without key xs) (without key xs)) ≤ sum_by used (x ∷ xs)
-    by true rest = omega (arith, rest, whole)
-    by false rest = let new : sum_by used (x ∷ without key xs) ≡ used x + sum_by used (without key xs) = sum_by-cons used x (without key xs) in omega (arith, rest, new, whole)
-
 sum_has : (key : ItemId) (items : List Item) (o : Option Item) → item_of items key ≡ o → blocks_held (part (λ i. i.held) [] o) ≤ sum_by used items
 sum_has key [] o e = subst (λ (z : Option Item). blocks_held (part (λ i. i.held) [] z) ≤ 0) e (omega arith)
 sum_has key (x ∷ xs) o e = by (x.id.0 == key.0) e (λ k. sum_has key xs o k)
@@ -109,56 +69,6 @@ sum_has key (x ∷ xs) o e = by (x.id.0 == key.0) e (λ k. sum_has key xs o k)
     by : (t : Bool) → cond t (Some x) (item_of xs key) ≡ o → (item_of xs key ≡ o → blocks_held (part (λ i. i.held) [] o) ≤ sum_by used xs) → blocks_held (part (λ i. i.held) [] o) ≤ sum_by used (x ∷ xs)
     by true k later = subst (λ (z : Option Item). blocks_held (part (λ i. i.held) [] z) ≤ sum_by used (x ∷ xs)) k (omega (arith, whole))
     by false k later = let rest : blocks_held (part (λ i. i.held) [] o) ≤ sum_by used xs = later k in omega (arith, rest, whole)
-
--- one change
-
--- of an item that stays
-stays : (c : Change) (key : ItemId) (f : Item → Item) (p : Pin) (n : Usn) (items : List Item) (g : ℕ) → IsRising 0 items g → ((i : Item) → f i ≡ item_effect c p n i) → ((i : Item) → item_of items key ≡ Some i → length (puts_in c i.held) ≡ length (puts_into items c)) → blocks_used (changed key f items) ≤ blocks_used items + length (puts_into items c)
-stays c key f p n items g r same puts =
-    sum_changed key f (length (puts_into items c)) 0 items g r
-    (λ i at.
-    let h : blocks_held (item_effect c p n i).held ≤ blocks_held i.held + length (puts_in c i.held) = held_after c i p n in
-    let e : used (f i) ≡ blocks_held (item_effect c p n i).held = ap (λ (x : Item). used x) (same i) in
-    let k : length (puts_in c i.held) ≡ length (puts_into items c) = puts i at in
-    omega (arith, h, e, k))
-
-held_is : (items : List Item) (key : ItemId) (i : Item) → item_of items key ≡ Some i → held_of items key ≡ i.held
-held_is items key i e = ap (λ (o : Option Item). part (λ x. x.held) [] o) e
-
--- a change uses no more blocks than it puts bytes into
-pub uses_more : (items : List Item) (g : ℕ) (c : Change) (n : Usn) → IsRising 0 items g → blocks_used (effect items c n) ≤ blocks_used items + length (puts_into items c)
-uses_more items g (change.Make item parent name kind size identity) n r =
-    let new : Item = made item parent name kind size identity (pin_of items parent) n in
-    let e : sum_by used (items ++ new ∷ []) ≡ sum_by used items + sum_by used (new ∷ []) = sum_by-append used items (new ∷ []) in
-    let k : sum_by used (new ∷ []) ≡ used new + 0 = sum_by-cons used new [] in
-    let z : used new ≡ 0 = none_here (size_made kind size) in
-    omega (arith, e, k, z)
-uses_more items g (change.Remove item) n r = let h = sum_without item items in omega (arith, h)
-uses_more items g (change.Copy item from parent name) n r = by (item_of items from) refl
-  where
-    by : (o : Option Item) → item_of items from ≡ o → sum_by used (items ++ copies item parent name (pin_of items parent) n o) ≤ sum_by used items + blocks_held (part (λ i. i.held) [] (item_of items from))
-    by None e = let k : sum_by used (items ++ []) ≡ sum_by used items + 0 = sum_by-append used items [] in omega (arith, k)
-    by (Some i) e =
-        let new : List Item = copies item parent name (pin_of items parent) n (Some i) in
-        let k : sum_by used (items ++ new) ≡ sum_by used items + sum_by used new = sum_by-append used items new in
-        let one : sum_by used new ≡ used i + 0 = sum_by-cons used (copied item parent name (pin_of items parent) n i) [] in
-        let h : blocks_held (part (λ x. x.held) [] (item_of items from)) ≡ used i = ap (λ (o : Option Item). blocks_held (part (λ x. x.held) [] o)) e in
-        omega (arith, k, one, h)
-uses_more items g (change.Move item parent name) n r = stays (change.Move item parent name) item _ (pin_of items parent) n items g r (λ i. refl) (λ i e. refl)
-uses_more items g (change.Write item at bytes) n r = stays (change.Write item at bytes) item _ pin.Unpinned n items g r (λ i. refl) (λ i e. ap (λ (h : List (Option ℕ)). length (puts_in (change.Write item at bytes) h)) (sym (held_is items item i e)))
-uses_more items g (change.Size item size) n r = stays (change.Size item size) item _ pin.Unpinned n items g r (λ i. refl) (λ i e. ap (λ (h : List (Option ℕ)). length (puts_in (change.Size item size) h)) (sym (held_is items item i e)))
-uses_more items g (change.Filled item start bytes) n r = stays (change.Filled item start bytes) item _ pin.Unpinned n items g r (λ i. refl) (λ i e. ap (λ (h : List (Option ℕ)). length (puts_in (change.Filled item start bytes) h)) (sym (held_is items item i e)))
-uses_more items g (change.Validated item start len) n r = stays (change.Validated item start len) item _ pin.Unpinned n items g r (λ i. refl) (λ i e. refl)
-uses_more items g (change.Emptied item start len) n r = stays (change.Emptied item start len) item _ pin.Unpinned n items g r (λ i. refl) (λ i e. refl)
-uses_more items g (change.SetPin item p) n r = stays (change.SetPin item p) item _ pin.Unpinned n items g r (λ i. refl) (λ i e. refl)
-uses_more items g (change.Mark item number) n r = stays (change.Mark item number) item _ pin.Unpinned n items g r (λ i. refl) (λ i e. refl)
-uses_more items g (change.Clear item) n r = stays (change.Clear item) item _ pin.Unpinned n items g r (λ i. refl) (λ i e. refl)
-uses_more items g (change.Convert item identity) n r = stays (change.Convert item identity) item _ pin.Unpinned n items g r (λ i. refl) (λ i e. refl)
-uses_more items g (change.Revert item) n r = stays (change.Revert item) item _ pin.Unpinned n items g r (λ i. refl) (λ i e. refl)
-uses_more items g (change.Rebase item identity len at) n r = stays (change.Rebase item identity len at) item _ pin.Unpinned n items g r (λ i. refl) (λ i e. refl)
-uses_more items g (change.Take item identity size) n r = stays (change.Take item identity size) item _ pin.Unpinned n items g r (λ i. refl) (λ i e. refl)
-uses_more items g (change.Populated item) n r = stays (change.Populated item) item _ pin.Unpinned n items g r (λ i. refl) (λ i e. refl)
-uses_more items g (change.Keep item on) n r = stays (change.Keep item on) item _ pin.Unpinned n items g r (λ i. refl) (λ i e. refl)
 
 -- and it puts bytes into no more than it costs
 

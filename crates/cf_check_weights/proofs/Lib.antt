@@ -1,4 +1,3 @@
-pub mod Blocks
 pub mod Bounds
 pub mod Places
 pub mod Weighing

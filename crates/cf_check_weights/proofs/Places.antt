@@ -8,7 +8,8 @@ use Rattle.cf_base.specs.declared.changes.Change.TheVariants as change
 use Rattle.cf_base.specs.declared.ids.Usn.{Usn}
 use Rattle.cf_model_room.proofs.Heavy.{heavy_says}
 use Rattle.cf_model_room.specs.Rooms.{first_puts, is_heavy, load_from, load_since}
-use Rattle.cf_check_weights.proofs.Bounds.{IsRising, both, puts_few, risen, stays_rising, uses_more}
+use Rattle.cf_check_weights.proofs.Bounds.{IsRising, both, in_order, puts_few, risen, stays_rising}
+use Rattle.cf_volume_room.proofs.Bounds.{uses_more}
 use Rattle.cf_check_weights.specs.Costs.{cost_of}
 use Rattle.cf_check_weights.specs.Weighed.{heavy_from, heavy_places, is_among, last_weight, makes_above, may_pass, most_weight, next_weight, nothing, since_of, weight_at, weight_of, weights_from}
 use Rattle.cf_check_weights.specs.declared.weights.Weight.{Weight}
@@ -59,7 +60,7 @@ bounded_next items load w n c h rises =
 
     by : IsRising 0 items w.greatest → ((blocks_used items ≤ w.total) × (load ≤ w.total)) ⊎ (w.total ≡ most_weight)
         → ((blocks_used (effect items c n) ≤ (next_weight w c).total) × (max (load + length (puts_into items c)) (blocks_used (effect items c n)) ≤ (next_weight w c).total)) ⊎ ((next_weight w c).total ≡ most_weight)
-    by r (inl (used, le)) = sums (blocks_used items) (length (puts_into items c)) load (blocks_used (effect items c n)) w.total (cost_of w.total c) (puts_few items c w.total used) (uses_more items w.greatest c n r) used le
+    by r (inl (used, le)) = sums (blocks_used items) (length (puts_into items c)) load (blocks_used (effect items c n)) w.total (cost_of w.total c) (puts_few items c w.total used) (uses_more items c n (in_order 0 items w.greatest r)) used le
     by r (inr full) = inr (omega (arith, full))
 
 -- what a change costs does not begin with what is used, but for a copy
