@@ -1,5 +1,5 @@
 -- How many rows are of a directory whose entries are not known, as rows change.
-use Rattle.std.proofs.Common.{◌≡◌, ◌∙◌, ◌<◌, ◌≤◌, ◌+◌, ◌-◌, ◌++◌, ◌∷◌, ◌||◌, ℕ, List, [], true, false, Bool, cond, ap, arith, get_or, length, ltb, refl, set, subst, sym}
+use Rattle.std.proofs.Common.{◌≡◌, ◌∙◌, ◌<◌, ◌≤◌, ◌+◌, ◌-◌, ◌++◌, ◌∷◌, ◌||◌, ℕ, List, [], true, false, Bool, cond, ap, arith, get_or, length, ltb, refl, set}
 use Rattle.std.specs.List.{list_any}
 use Rattle.std.specs.Prelude.{insert, remove}
 use Rattle.std.proofs.lemmas.Bool.Decides.{nat_tests}
@@ -50,15 +50,13 @@ count_changed u before after k old new s x y lt count here is sets there becomes
 
 -- a row in its place by id
 
-pub put_at : (rows : List Row) (id k n : ℕ) (x row : Row) → RisesFrom 0 rows → IsRowAt rows id k → x ≡ get_or rows k x → n ≡ cond (is_unlisted x) 1 0 → row.id.0 ≡ id
+pub put_at : (rows : List Row) (k n : ℕ) (x row : Row) → RisesFrom 0 rows → IsRowAt rows row.id.0 k → x ≡ get_or rows k x → n ≡ cond (is_unlisted x) 1 0
     → unlisted_in (with_row row rows) + n ≡ unlisted_in rows + cond (is_unlisted row) 1 0
-put_at rows id k n x row rises at here is same =
-    let there : IsRowAt rows row.id.0 k = record { in_range = at.in_range; has_id = λ d. at.has_id d ∙ sym same } in
-    omega (arith, is, ap {B = ℕ} (λ (r : Row). cond (is_unlisted r) 1 0) here, ap unlisted_in (set_is_with 0 rows k row rises there), set_count rows k row x at.in_range)
+put_at rows k n x row rises at here is =
+    omega (arith, is, ap {B = ℕ} (λ (r : Row). cond (is_unlisted r) 1 0) here, ap unlisted_in (set_is_with 0 rows k row rises at), set_count rows k row x at.in_range)
 
-pub put_in_gap : (rows : List Row) (id k : ℕ) (row : Row) → IsRowGap rows id k → row.id.0 ≡ id → unlisted_in (with_row row rows) + 0 ≡ unlisted_in rows + cond (is_unlisted row) 1 0
-put_in_gap rows id k row gap same =
-    omega (arith, ap unlisted_in (insert_is_with rows k row (subst (λ (n : ℕ). IsRowGap rows n k) (sym same) gap)), insert_count rows k row)
+pub put_in_gap : (rows : List Row) (k : ℕ) (row : Row) → IsRowGap rows row.id.0 k → unlisted_in (with_row row rows) + 0 ≡ unlisted_in rows + cond (is_unlisted row) 1 0
+put_in_gap rows k row gap = omega (arith, ap unlisted_in (insert_is_with rows k row gap), insert_count rows k row)
 
 pub count_put : (u before after : ℕ) (row : Row) (old given new : List Row) → given ≡ old → u ≡ unlisted_in old → before ≤ unlisted_in given
     → unlisted_in (with_row row given) + before ≡ unlisted_in given + cond (is_unlisted row) 1 0 → after ≡ cond (is_unlisted row) 1 0 → new ≡ with_row row old → u - before + after ≡ unlisted_in new

@@ -1,5 +1,5 @@
 -- The entry of a row becomes another one with its id.
-use Rattle.std.proofs.Common.{◌≡◌, ℕ, zero, suc, ◌+◌, ◌<◌, Bool, true, false, not, List, [], ◌∷◌, length, get_or, set, refl, sym, ap, ◌∙◌, arith}
+use Rattle.std.proofs.Common.{◌≡◌, ℕ, zero, suc, ◌+◌, ◌<◌, Bool, true, false, not, List, [], ◌∷◌, eqb, length, get_or, set, refl, sym, ap, ◌∙◌, arith}
 use Rattle.std.specs.Prelude.{filter}
 use Rattle.std.specs.Cmp.Lexicographic.{slice_cmp}
 use Rattle.std.specs.Ordering.{is_eq, nat_cmp, ordering_then}
@@ -9,13 +9,13 @@ use Rattle.std.proofs.lemmas.Bool.{cond-true}
 use Rattle.cf_base.specs.declared.ids.ItemId.{ItemId}
 use Rattle.cf_lists.proofs.Ordered as ordered
 use Rattle.cf_lists.specs.Ordered.{InOrder}
-use Rattle.cf_model.specs.Words.{put_in, sorted}
+use Rattle.cf_model.specs.Words.{put_in, same, sorted}
 use Rattle.cf_table.specs.Index.{compared, entries_of, entry_of, index_of, stands_before, without_entry}
-use Rattle.cf_table.specs.Tables.{IsRowAt, RisesFrom}
+use Rattle.cf_table.specs.Tables.{IsRowAt, RisesFrom, is_child_row}
 use Rattle.cf_table.specs.declared.entries.Entry.{Entry}
 use Rattle.cf_table.specs.declared.rows.Row.{Row}
-use Rattle.cf_table.proofs.Indexed.{all_apart, apart_below, compared_total, equal_is, index_with, index_without, not_equal, one_id, row_here}
-use Rattle.cf_table.proofs.NamedEntries.{equal_names, equal_numbers}
+use Rattle.cf_table.proofs.Indexed.{all_apart, apart_below, compared_total, equal_is, index_with, index_without, not_equal, number_is, one_id, row_here}
+use Rattle.cf_table.proofs.NamedEntries.{equal_names, equal_numbers, first_of_both, same_is, second_of_both}
 use Rattle.cf_table.proofs.TableMeans.{at_tail, before, set_is_with}
 
 -- entries that compare as equal are one
@@ -47,13 +47,27 @@ set_itself [] k r is lt = refl
 set_itself (x ∷ xs) zero r is lt = ap (λ (v : Row). v ∷ xs) is
 set_itself (x ∷ xs) (suc k) r is lt = ap (λ (l : List Row). x ∷ l) (set_itself xs k r is (omega arith))
 
-pub has_already : (rows : List Row) (k : ℕ) (r : Row) (entry : Entry) → RisesFrom 0 rows → k < length rows → r ≡ get_or rows k r → is_eq (compared entry (entry_of r)) ≡ true
+has_it : (rows : List Row) (k : ℕ) (r : Row) (entry : Entry) → RisesFrom 0 rows → k < length rows → r ≡ get_or rows k r → entry ≡ entry_of r
     → index_of rows ≡ put_in stands_before entry (without_entry (entry_of (get_or rows k r)) (index_of rows))
-has_already rows k r entry rises lt is h =
+has_it rows k r entry rises lt is same =
     let at : IsRowAt rows r.id.0 k = row_here rows k r lt is in
-    sym (ap (λ (e : Entry). put_in stands_before e (without_entry (entry_of (get_or rows k r)) (index_of rows))) (one_entry entry (entry_of r) (equal_is (compared entry (entry_of r)) h))
+    sym (ap (λ (e : Entry). put_in stands_before e (without_entry (entry_of (get_or rows k r)) (index_of rows))) same
     ∙ ap (put_in stands_before (entry_of r)) (index_without rows r.id k r rises at) ∙ sym (index_with 0 r rows rises)
     ∙ ap index_of (sym (set_is_with 0 rows k r rises at) ∙ set_itself rows k r is lt))
+
+pub has_already : (rows : List Row) (k : ℕ) (r : Row) (entry : Entry) → RisesFrom 0 rows → k < length rows → r ≡ get_or rows k r → is_eq (compared entry (entry_of r)) ≡ true
+    → index_of rows ≡ put_in stands_before entry (without_entry (entry_of (get_or rows k r)) (index_of rows))
+has_already rows k r entry rises lt is h = has_it rows k r entry rises lt is (one_entry entry (entry_of r) (equal_is (compared entry (entry_of r)) h))
+
+one_place : (row r : Row) → r.id.0 ≡ row.id.0 → is_child_row row.parent row.name r ≡ true → entry_of row ≡ entry_of r
+one_place row r i h =
+    let p : r.parent.0 ≡ row.parent.0 = number_is r.parent.0 row.parent.0 (first_of_both (eqb r.parent.0 row.parent.0) (same r.name row.name) h) in
+    let n : r.name ≡ row.name = same_is r.name row.name (second_of_both (eqb r.parent.0 row.parent.0) (same r.name row.name) h) in
+    sym (λ j. record { parent = record { 0 = p j }; name = n j; id = record { 0 = i j } })
+
+pub stands_already : (rows : List Row) (k : ℕ) (r row : Row) → RisesFrom 0 rows → IsRowAt rows row.id.0 k → r ≡ get_or rows k r → is_child_row row.parent row.name r ≡ true
+    → index_of rows ≡ put_in stands_before (entry_of row) (without_entry (entry_of (get_or rows k r)) (index_of rows))
+stands_already rows k r row rises at is h = has_it rows k r (entry_of row) rises at.in_range is (one_place row r (ap (λ (x : Row). x.id.0) is ∙ at.has_id r) h)
 
 -- a new entry beside the one that goes
 

@@ -6,6 +6,7 @@ ghost use Rattle.cf_collections.specs.Split.{behind};
 ghost use Rattle.cf_model.specs.Words.{put_in};
 ghost use Rattle.cf_lists.specs.Ordered.{InOrder};
 ghost use Rattle.cf_table.specs.Index.{begins_with, compared, entry_at, entry_id, entry_ids, entry_of, is_entry_in, is_entry_of, stands_before, without_entry};
+ghost use Rattle.cf_table.specs.Tables.{is_child_row};
 
 use crate::rows::Row;
 use cf_base::{Blob, ItemId, OutOfMemory};
@@ -107,6 +108,13 @@ pub(crate) fn has_entry(row: &Row, entry: &Entry) -> bool
     ensures { result ≡ is_eq (compared entry.now (entry_of row.now)) }
 {
     order(entry, row.parent, row.name.as_slice(), row.id).is_eq()
+}
+
+/// Whether the item of a row has this parent and name.
+pub(crate) fn stands_at(row: &Row, parent: ItemId, name: &[u8]) -> bool
+    ensures { result ≡ is_child_row parent name.now row.now }
+{
+    row.parent == parent && row.name.as_slice() == name
 }
 
 fn is_named(entry: &Entry, parent: ItemId, name: &[u8]) -> bool

@@ -1,6 +1,6 @@
 //! Lists of rows in order of id, with their index.
 
-ghost use Rattle.std.specs.Prelude.{◌≡◌, ◌≤◌, ◌<◌, ◌^◌, ◌++◌, ◌∷◌, [], All, IfOk, OnOk, OnErr, length, get_or, remove};
+ghost use Rattle.std.specs.Prelude.{◌≡◌, ◌≤◌, ◌<◌, ◌^◌, ◌++◌, ◌∷◌, [], All, IfErr, IfOk, OnOk, OnErr, length, get_or, remove};
 ghost use Rattle.cf_table.specs.Applied.{FitsRow, IsSpellable, Moves, moves, Steps};
 ghost use Rattle.cf_lists.specs.Ordered.{InOrder};
 ghost use Rattle.cf_model.specs.Words.{put_in};
@@ -9,8 +9,8 @@ ghost use Rattle.cf_table.specs.Means.{IsLater};
 ghost use Rattle.cf_table.specs.Tables.{IsRowAt, IsRowGap, IsTable, RisesFrom, SetsAt, with_row};
 ghost use Rattle.cf_table.specs.declared.rows.Row.{Row};
 
-use crate::entries::{Entry, add_entry, has_entry, remove_entry_of};
-use crate::row_lists::{change_at, find_row, insert_at, move_at, push_row, remove_at, replace_at};
+use crate::entries::{Entry, add_entry, has_entry, remove_entry_of, stands_at};
+use crate::row_lists::{change_at, insert_at, move_at, push_row, remove_at, replace_at};
 use crate::rows::Row;
 use cf_base::{Blob, Change, ItemId, Name, OutOfMemory, Pin, Usn};
 use cf_collections::{ChunkedList, SpareList};
@@ -64,14 +64,18 @@ pub(crate) fn push_indexed(
     add_entry_at(rows, index, place, entry, len)
 }
 
-/// Puts a row in place of the one with its id, or between those with ids below and above. Without memory nothing changes.
+/// Puts a row in place of the one with its id, or between those with ids below and above, where `find_row` found its place.
+/// Without memory nothing changes.
 pub(crate) fn put_indexed(
     alloc: Global,
     rows: &mut SpareList<Row>,
     index: &mut ChunkedList<Entry>,
+    found: Result<usize, usize>,
     row: Row,
     len: u128,
 ) -> Result<u128, OutOfMemory>
+    requires found { IfOk found (IsRowAt rows.old row.id.0) }
+    requires absent { IfErr found (IsRowGap rows.old row.id.0) }
     requires indexed { IsIndexed rows.old index.old len }
     requires spellable { IsSpellable row }
     ensures indexed { IfOk result (IsIndexed rows.new index.new) }
@@ -79,10 +83,9 @@ pub(crate) fn put_indexed(
     ensures err { OnErr result ((rows.new ≡ rows.old) × (index.new ≡ index.old)) }
     ensures few { OnOk result (length rows.old < 2 ^ 63) }
 {
-    let entry = Entry::of(alloc, &row)?;
-    match find_row(rows.as_slice(), row.id.0) {
-        Ok(place) => replace_indexed(rows, index, place, row, entry, len),
-        Err(place) => insert_indexed(rows, index, place, row, entry, len),
+    match found {
+        Ok(place) => replace_indexed(alloc, rows, index, place, row, len),
+        Err(place) => insert_indexed(alloc, rows, index, place, row, len),
     }
 }
 
@@ -110,44 +113,64 @@ fn set_entry(
     Ok(())
 }
 
+// The same with the entry of a row with that id, which is made only where the item does not stand there already.
+fn set_entry_of(
+    alloc: Global,
+    rows: &SpareList<Row>,
+    index: &mut ChunkedList<Entry>,
+    place: usize,
+    row: &Row,
+) -> Result<(), OutOfMemory>
+    requires place { IsRowAt rows.now row.now.id.0 place }
+    requires rises { RisesFrom 0 rows.now }
+    requires index { index.old ≡ index_of rows.now }
+    ensures ok { OnOk result ((d : Row) → index.new ≡ put_in stands_before (entry_of row.now) (without_entry (entry_of (get_or rows.now place d)) index.old)) }
+    ensures err { OnErr result (index.new ≡ index.old) }
+{
+    if stands_at(&rows[place], row.parent, row.name.as_slice()) {
+        return Ok(());
+    }
+    let entry = Entry::of(alloc, row)?;
+    set_entry(rows, index, place, entry)
+}
+
 fn replace_indexed(
+    alloc: Global,
     rows: &mut SpareList<Row>,
     index: &mut ChunkedList<Entry>,
     place: usize,
     row: Row,
-    entry: Entry,
     len: u128,
 ) -> Result<u128, OutOfMemory>
     requires place { IsRowAt rows.old row.id.0 place }
     requires indexed { IsIndexed rows.old index.old len }
     requires spellable { IsSpellable row }
-    requires entry { entry ≡ entry_of row }
     ensures indexed { IfOk result (IsIndexed rows.new index.new) }
     ensures puts { OnOk result (rows.new ≡ with_row row rows.old) }
     ensures err { OnErr result ((rows.new ≡ rows.old) × (index.new ≡ index.old)) }
     ensures few { OnOk result (length rows.old < 2 ^ 63) }
 {
-    set_entry(rows, index, place, entry)?;
+    set_entry_of(alloc, rows, index, place, &row)?;
     Ok(replace_at(rows, place, row, len))
 }
 
 fn insert_indexed(
+    alloc: Global,
     rows: &mut SpareList<Row>,
     index: &mut ChunkedList<Entry>,
     place: usize,
     row: Row,
-    entry: Entry,
     len: u128,
 ) -> Result<u128, OutOfMemory>
     requires place { IsRowGap rows.old row.id.0 place }
     requires indexed { IsIndexed rows.old index.old len }
     requires spellable { IsSpellable row }
-    requires entry { entry ≡ entry_of row }
     ensures indexed { IfOk result (IsIndexed rows.new index.new) }
     ensures puts { OnOk result (rows.new ≡ with_row row rows.old) }
     ensures err { OnErr result ((rows.new ≡ rows.old) × (index.new ≡ index.old)) }
     ensures few { OnOk result (length rows.old < 2 ^ 63) }
 {
+    let entry = Entry::of(alloc, &row)?;
     let len = insert_at(rows, place, row, len)?;
     add_entry_at(rows, index, place, entry, len)
 }

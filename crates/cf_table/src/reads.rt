@@ -124,6 +124,29 @@ fn read_rows(
     Ok(rows)
 }
 
+// So many rows, whose ids rise, in a list.
+fn read_each(
+    alloc: Global,
+    r: &mut Reader,
+    format: Format,
+    count: u32,
+) -> Result<Vec<Row>, RowError>
+    ensures took { IfOk result (λ v. Takes (spell_each_in format v.items) r.old r.new) }
+    ensures count { IfOk result (λ v. length v.items ≡ count) }
+    ensures rows { IfOk result (λ v. AreRowsIn format None (map row_value v.items)) }
+    ensures room { IfOk result (λ v. All HasRoom v.items) }
+    ensures fault { IfErr result (AtRows format None count r.old) }
+{
+    let mut rows = Vec::new(alloc);
+    let mut before = None;
+    for _ in 0..count {
+        let row = read_row(alloc, r, format, before)?;
+        before = Some(row.id.0);
+        rows.push(row)?;
+    }
+    Ok(rows)
+}
+
 impl Row {
     /// Reads a row that is spelled in the format, as `spell` does in format 2, and leaves what stands behind it. Short or
     /// BadField at the first field that lacks bytes or is not spelled, and then no row is spelled at the front of what is left.
@@ -135,6 +158,20 @@ impl Row {
         ensures none { IfErr result (λ e. IsTold e → (row : model.Row) (more : List ℕ) → IsRowIn format None row → r.old.rest ≡ spell_row_in format row ++ more → ⊥) }
     {
         read_row(alloc, r, format, None)
+    }
+
+    /// Reads how many rows there are, and the rows, whose ids rise; leaves what stands behind them. They come as a list in
+    /// order of id, without what a table keeps beside them. Short or BadField at the first field that lacks bytes or is not
+    /// spelled, and then no rows are spelled at the front of what is left.
+    pub fn read_list(alloc: Global, r: &mut Reader, format: Format) -> Result<Vec<Row>, RowError>
+        ensures took { IfOk result (λ v. Takes (spell_rows_in format (map row_value v.items)) r.old r.new) }
+        ensures fits { IfOk result (λ v. AreTable format (map row_value v.items)) }
+        ensures room { IfOk result (λ v. All HasRoom v.items) }
+        ensures fault { IfErr result (AtTable format r.old) }
+        ensures none { IfErr result (λ e. IsTold e → (rows : List model.Row) (more : List ℕ) → AreTable format rows → r.old.rest ≡ spell_rows_in format rows ++ more → ⊥) }
+    {
+        let count = read_4(r)?;
+        read_each(alloc, r, format, count)
     }
 }
 

@@ -13,7 +13,7 @@ ghost use Rattle.cf_table.specs.Tables.{AreTableRows, MeansAll, RisesFrom, row_o
 
 use crate::entries::Entry;
 use crate::indexed_rows::{push_indexed, put_indexed, remove_indexed};
-use crate::listings::{unlisted, unlisted_of};
+use crate::listings::{unlisted, unlisted_at};
 use crate::row_lists::{anchor_at, extent_at, find_row, touch_at};
 use crate::rows::{ROOT, Row};
 use crate::targets::raised;
@@ -117,9 +117,18 @@ impl Rows {
         ensures err { OnErr result (self.new ≡ self.old) }
     {
         let bound = raised(self.bound, &row.identity);
-        let before = unlisted_of(self.rows.as_slice(), row.id.0);
+        let rows = self.rows.as_slice();
+        let found = find_row(rows, row.id.0);
+        let before = unlisted_at(rows, found);
         let after = unlisted(&row);
-        self.len = put_indexed(self.alloc, &mut self.rows, &mut self.index, row, self.len)?;
+        self.len = put_indexed(
+            self.alloc,
+            &mut self.rows,
+            &mut self.index,
+            found,
+            row,
+            self.len,
+        )?;
         self.bound = bound;
         self.unlisted = self.unlisted - before + after;
         Ok(())

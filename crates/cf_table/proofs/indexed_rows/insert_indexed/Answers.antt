@@ -14,7 +14,7 @@ add_entry_at-requires-clause-order c = entries_in_order c.args.rows.now c.args.i
 
 pub returns-clause-indexed : goal.returns-clause-indexed
 returns-clause-indexed c =
-    inserted_all c.add_entry_at.result c.args.rows.now c.insert_at.new.rows c.add_entry_at.new.rows c.args.index.now c.add_entry_at.new.index c.args.entry c.args.row c.args.place c.args.len c.in_ok-len.len c.requires.indexed c.requires.place c.requires.entry
+    inserted_all c.add_entry_at.result c.args.rows.now c.insert_at.new.rows c.add_entry_at.new.rows c.args.index.now c.add_entry_at.new.index c.in_ok-entry.entry c.args.row c.args.place c.args.len c.in_ok-len.len c.requires.indexed c.requires.place c.in_ok-entry.ensures
     c.in_ok-len.ensures.puts c.in_ok-len.ensures.table c.add_entry_at.ensures.rows c.add_entry_at.ensures.index c.add_entry_at.ensures.len
 
 pub returns-clause-puts : goal.returns-clause-puts
