@@ -95,12 +95,15 @@ records_put records keys rest key out new all is puts so =
 pub records_count : (records : List AuxRecord) (keys rest : List (List ℕ)) (key : List ℕ) (n more all : ℕ) → keys ≡ key ∷ rest → more ≡ length (one_record records key) → n + length (records_at records keys) ≡ all → n + more + length (records_at records rest) ≡ all
 records_count records keys rest key n more all is puts so = omega (arith, so, puts, ap (λ l. length (records_at records l)) is, front_count (record_at records key) (records_at records rest))
 
--- rows that are copied have room
+-- the first of rows that have room, and the rest
 
-pub spellable_copy : (rows : List TableRow) (i : ℕ) (r copy : TableRow) → All HasRoom rows → i < length rows → r ≡ get_or rows i r → copy ≡ r → IsSpellable copy
-spellable_copy rows i r copy all lt is same =
-    let here : HasRoom r = subst (λ (y : TableRow). HasRoom y) (sym is) (all i r lt) in
-    subst (λ (y : TableRow). IsSpellable y) (sym same) here.texts
+pub first_spellable : (rows rest : List TableRow) (r : TableRow) → rows ≡ r ∷ rest → All HasRoom rows → IsSpellable r
+first_spellable rows rest r is all = (All-head HasRoom r rest (subst (λ (l : List TableRow). All HasRoom l) is all)).texts
+
+pub rest_has_room : (rows rest : List TableRow) (r : TableRow) → rows ≡ r ∷ rest → All HasRoom rows → All HasRoom rest
+rest_has_room rows rest r is all = All-tail HasRoom r rest (subst (λ (l : List TableRow). All HasRoom l) is all)
+
+-- a record that is copied is short
 
 pub short_copy : (records : List AuxRecord) (i : ℕ) (r copy : AuxRecord) → All IsShort records → i < length records → r ≡ get_or records i r → copy ≡ r → IsShort copy
 short_copy records i r copy all lt is copied =

@@ -101,15 +101,15 @@ pub no_records_removed : (xs : List AuxRecord) → without_records [] xs ≡ xs
 no_records_removed [] = refl
 no_records_removed (x ∷ xs) = ap (λ v. x ∷ v) (no_records_removed xs)
 
-pub row_added : (more rest : List TableRow) (row copy : TableRow) (rows new : List TableRow) (all : List Row) → more ≡ row ∷ rest → copy ≡ row → new ≡ with_row copy rows → RisesFrom 0 rows →
+pub row_added : (more rest : List TableRow) (row : TableRow) (rows new : List TableRow) (all : List Row) → more ≡ row ∷ rest → new ≡ with_row row rows → RisesFrom 0 rows →
     model.with_rows (map row_value more) (map row_value rows) ≡ all → model.with_rows (map row_value rest) (map row_value new) ≡ all
-row_added more rest row copy rows new all is same puts rises so =
-    ap (λ l. model.with_rows (map row_value rest) (map row_value l)) (puts ∙ ap (λ r. with_row r rows) same)
+row_added more rest row rows new all is puts rises so =
+    ap (λ l. model.with_rows (map row_value rest) (map row_value l)) puts
     ∙ ap (model.with_rows (map row_value rest)) (map_with 0 row rows rises)
     ∙ ap (λ l. model.with_rows (map row_value l) (map row_value rows)) (sym is) ∙ so
 
-pub rises_added : (copy : TableRow) (rows new : List TableRow) → new ≡ with_row copy rows → RisesFrom 0 rows → RisesFrom 0 new
-rises_added copy rows new puts rises = subst (λ (l : List TableRow). RisesFrom 0 l) (sym puts) (rises_with 0 copy rows (omega arith) rises)
+pub rises_added : (row : TableRow) (rows new : List TableRow) → new ≡ with_row row rows → RisesFrom 0 rows → RisesFrom 0 new
+rises_added row rows new puts rises = subst (λ (l : List TableRow). RisesFrom 0 l) (sym puts) (rises_with 0 row rows (omega arith) rises)
 
 pub record_added : (more rest : List AuxRecord) (r copy : AuxRecord) (records new all : List AuxRecord) → more ≡ r ∷ rest → copy ≡ r → new ≡ model.with_record copy records →
     model.with_records more records ≡ all → model.with_records rest new ≡ all

@@ -60,7 +60,7 @@ abbrev pub changes_of : Changes → Payload
 changes_of c = record {
   header = read_header_of c.header;
   removed = c.removed.items;
-  rows = map row_value c.rows.rows;
+  rows = map row_value c.rows.items;
   removed_keys = c.removed_keys.items;
   records = c.records;
 }

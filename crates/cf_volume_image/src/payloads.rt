@@ -168,7 +168,8 @@ pub fn spell_payload(
 pub(crate) struct Changes {
     header: Header,
     removed: Vec<ItemId>,
-    rows: Rows,
+    // In order of id. They are not looked up, so they need no index.
+    rows: Vec<Row>,
     removed_keys: Vec<Blob>,
     records: AuxRecords,
 }
@@ -176,12 +177,12 @@ pub(crate) struct Changes {
 fn changes_in(alloc: Global, r: &mut Reader, format: Format) -> Result<Changes, RowError>
     ensures took { IfOk result (λ c. r.old.rest ≡ spell_payload_in format (changes_of c)) }
     ensures fits { IfOk result (λ c. IsPayloadIn format (changes_of c)) }
-    ensures room { IfOk result (λ c. All HasRoom c.rows.rows) }
+    ensures room { IfOk result (λ c. All HasRoom c.rows.items) }
     ensures fault { IfErr result (AtPayload format r.old) }
 {
     let header = read_header(r, format)?;
     let removed = read_ids(alloc, r)?;
-    let rows = Rows::read_front(alloc, r, format, header.next)?;
+    let rows = Row::read_list(alloc, r, format)?;
     let removed_keys = read_keys(alloc, r)?;
     let records = read_records(alloc, r)?;
     r.end()?;
@@ -197,7 +198,7 @@ fn changes_in(alloc: Global, r: &mut Reader, format: Format) -> Result<Changes, 
 fn read_changes(alloc: Global, b: &[u8], format: Format) -> Result<Changes, RowError>
     ensures spelled { IfOk result (λ c. b.now ≡ spell_payload_in format (changes_of c)) }
     ensures fits { IfOk result (λ c. IsPayloadIn format (changes_of c)) }
-    ensures room { IfOk result (λ c. All HasRoom c.rows.rows) }
+    ensures room { IfOk result (λ c. All HasRoom c.rows.items) }
     ensures fault { IfErr result (AtPayload format (record { place = 0; rest = b.now })) }
 {
     let mut r = Reader::new(b);
@@ -213,16 +214,15 @@ fn remove_rows(rows: &mut Rows, ids: &[ItemId])
     }
 }
 
-fn add_rows(rows: &mut Rows, more: &[Row]) -> Result<(), OutOfMemory>
-    requires { All HasRoom more.now }
-    ensures rows { OnOk result (map row_value rows.new.rows ≡ with_rows (map row_value more.now) (map row_value rows.old.rows)) }
+fn add_rows(rows: &mut Rows, more: Vec<Row>) -> Result<(), OutOfMemory>
+    requires { All HasRoom more.items }
+    ensures rows { OnOk result (map row_value rows.new.rows ≡ with_rows (map row_value more.items) (map row_value rows.old.rows)) }
     ensures next { OnOk result (rows.new.next ≡ rows.old.next) }
 {
     // They stand in order of id.
     let _ = rows.as_slice();
     for row in more {
-        let copy = row.copy()?;
-        rows.put_row(copy)?;
+        rows.put_row(row)?;
     }
     Ok(())
 }
@@ -256,15 +256,21 @@ fn add_records(records: &mut AuxRecords, more: &[AuxRecord]) -> Result<(), OutOf
 }
 
 fn apply(contents: &mut Contents, changes: Changes) -> Result<(), OutOfMemory>
-    requires rows { All HasRoom changes.rows.rows }
+    requires rows { All HasRoom changes.rows.items }
     requires records { All IsShort changes.records }
     ensures { OnOk result (image_of contents.new ≡ after_payload (image_of contents.old) (changes_of changes)) }
 {
-    let header = changes.header;
-    remove_rows(&mut contents.rows, &changes.removed);
-    add_rows(&mut contents.rows, changes.rows.as_slice())?;
-    remove_records(&mut contents.records, &changes.removed_keys);
-    add_records(&mut contents.records, changes.records.as_slice())?;
+    let Changes {
+        header,
+        removed,
+        rows,
+        removed_keys,
+        records,
+    } = changes;
+    remove_rows(&mut contents.rows, &removed);
+    add_rows(&mut contents.rows, rows)?;
+    remove_records(&mut contents.records, &removed_keys);
+    add_records(&mut contents.records, records.as_slice())?;
     contents.rows.set_next(header.next);
     contents.last = header.last;
     contents.count = header.count;

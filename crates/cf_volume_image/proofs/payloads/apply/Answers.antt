@@ -3,25 +3,20 @@ use Rattle.std.specs.Prelude.{All, map}
 use Rattle.cf_base.specs.declared.answers.AuxRecord.{AuxRecord}
 use Rattle.cf_base.specs.declared.ids.ItemId.{ItemId}
 use Rattle.cf_model.specs.Formats.{with_records, with_rows}
-use Rattle.cf_table.specs.Spelling.{HasRoom, row_value}
-use Rattle.cf_table.specs.declared.rows.Row.{Row}
+use Rattle.cf_table.specs.Spelling.{row_value}
 use Rattle.cf_volume_image.specs.RecordLists.{IsShort}
 use Rattle.cf_volume_image.specs.States.{without_records, without_rows}
 use Rattle.cf_volume_image.proofs.Applied.{applied}
 use Rattle.cf_volume_image.proofs.payloads.apply.Goals as goal
 
-pub add_rows-requires : goal.add_rows-requires
-add_rows-requires c = subst (λ (l : List Row). All HasRoom l) (sym c.as_slice.ensures.value) c.requires.rows
-
 pub add_records-requires : goal.add_records-requires
-add_records-requires c = subst (λ (l : List AuxRecord). All IsShort l) (sym c.as_slice-2.ensures.value) c.requires.records
+add_records-requires c = subst (λ (l : List AuxRecord). All IsShort l) (sym c.as_slice.ensures.value) c.requires.records
 
 pub returns : goal.returns
 returns c =
     applied c.args.changes.header.last c.args.changes.header.count c.args.changes.header.clock c.set_next.new.self.next c.args.changes.header.next _ _ _ _ (ap (λ t. t.next) c.set_next.ensures)
     (ap (λ t. map row_value t.rows) c.set_next.ensures ∙ c.in_ok-add_rows.ensures.rows
-    ∙ ap (λ (l : List Row). with_rows (map row_value l) (map row_value c.remove_rows.new.rows.rows)) c.as_slice.ensures.value
-    ∙ ap (with_rows (map row_value c.args.changes.rows.rows)) (c.remove_rows.ensures.rows ∙ ap (λ (l : List ItemId). without_rows l (map row_value c.args.contents.now.rows.rows)) c.deref.ensures.value))
+    ∙ ap (with_rows (map row_value c.args.changes.rows.items)) (c.remove_rows.ensures.rows ∙ ap (λ (l : List ItemId). without_rows l (map row_value c.args.contents.now.rows.rows)) c.deref.ensures.value))
     (c.in_ok-add_records.ensures
-    ∙ ap (λ (l : List AuxRecord). with_records l c.remove_records.new.records) c.as_slice-2.ensures.value
+    ∙ ap (λ (l : List AuxRecord). with_records l c.remove_records.new.records) c.as_slice.ensures.value
     ∙ ap (with_records c.args.changes.records) (c.remove_records.ensures ∙ ap (λ l. without_records l c.args.contents.now.records) c.deref-2.ensures.value))
