@@ -4,13 +4,10 @@ use cf_base::{Choice, OutOfMemory};
 use cf_clusters::{ClusterError, Data};
 use cf_disk::{Disk, MemDisk};
 use std::alloc::Global;
-use std::process::Abort;
 use std::test::Fail;
 
-// Where the clusters begin, and the sizes of a disk with one and with two.
+// Where the clusters begin, and the size of a disk with two.
 const CLUSTERS: u64 = 3_145_728;
-
-const ONE: u64 = CLUSTERS + 4096;
 
 const TWO: u64 = CLUSTERS + 8192;
 
@@ -19,112 +16,131 @@ fn block(byte: u8) -> [u8; 4096] {
     [byte; 4096]
 }
 
-fn blank(alloc: Global, size: u64) -> Result<MemDisk, OutOfMemory> {
-    MemDisk::new(alloc, size)
+// What a stage of a block gives, in place of the first cluster or not; none where the store is not that of such a disk.
+fn staged(
+    disk: &mut MemDisk,
+    data: &mut Data,
+    over: bool,
+    byte: u8,
+) -> Option<Result<u32, ClusterError>> {
+    let clusters = data.clusters();
+    if clusters == 0 || 2 < clusters || disk.size() != TWO {
+        return None;
+    }
+    Some(if over {
+        data.stage(disk, Some(0), &block(byte))
+    } else {
+        data.stage(disk, None, &block(byte))
+    })
 }
 
-// The disk and the store are lent to what may fail, so that the test lets them go once.
-fn stages_once<R: Abort>(rt: &R, disk: &mut MemDisk, data: &mut Data) -> Result<(), Fail> {
-    assert_eq!(rt; data.free(), 1);
-    assert!(rt; data.clusters() == 1);
-    assert!(rt; disk.size() == ONE);
-    assert_eq!(rt; data.stage(disk, None, &block(7)), Ok(0));
-    assert!(rt; data.clusters() == 1);
-    assert!(rt; disk.size() == ONE);
-    let full = data.stage(disk, None, &block(8));
-    assert_eq!(rt; full, Err(ClusterError::Full));
-    assert!(rt; data.clusters() == 1);
-    assert!(rt; disk.size() == ONE);
+// Whether the first cluster is of such bytes.
+fn is_first(disk: &mut MemDisk, data: &Data, byte: u8) -> bool {
+    let clusters = data.clusters();
     let mut out = block(0);
-    data.read(disk, 0, &mut out)?;
-    assert_eq!(rt; out, block(7));
-    data.drop_block(0);
-    assert_eq!(rt; data.free(), 1);
-    Ok(())
+    0 < clusters
+        && clusters <= 2
+        && disk.size() == TWO
+        && data.read(disk, 0, &mut out).is_ok()
+        && out == block(byte)
 }
 
-fn stages_on_a_new_disk<R: Abort>(rt: &R, alloc: Global, data: &mut Data) -> Result<(), Fail> {
-    let mut disk = blank(alloc, ONE)?;
-    let done = stages_once(rt, &mut disk, data);
+fn drops(data: &mut Data, cluster: u32) {
+    if cluster < data.clusters() {
+        data.drop_block(cluster);
+    }
+}
+
+fn stages_once(disk: &mut MemDisk, data: &mut Data) -> bool {
+    let is_free = data.free() == 1;
+    let first = staged(disk, data, false, 7);
+    let full = staged(disk, data, false, 8);
+    let is_held = is_first(disk, data, 7);
+    drops(data, 0);
+    is_free
+        && first == Some(Ok(0))
+        && full == Some(Err(ClusterError::Full))
+        && is_held
+        && data.free() == 1
+}
+
+fn stages_on_a_new_disk(alloc: Global, data: &mut Data) -> Result<bool, OutOfMemory> {
+    let mut disk = MemDisk::new(alloc, TWO)?;
+    let staged = stages_once(&mut disk, data);
     drop(disk);
-    done
+    Ok(staged)
 }
 
 #[test]
 fn stages_one_cluster_once(rt: HostRuntime) -> Result<(), Fail> {
     let mut data = Data::new(rt.alloc(), 1, &[])?;
-    let done = stages_on_a_new_disk(&rt, rt.alloc(), &mut data);
+    let staged = stages_on_a_new_disk(rt.alloc(), &mut data);
     drop(data);
-    done
-}
-
-// A stage in place of a committed cluster while so many calls pass, and a power cut: the committed bytes are there.
-fn cuts<R: Abort>(
-    rt: &R,
-    disk: &mut MemDisk,
-    data: &mut Data,
-    calls: u32,
-    choice: Choice,
-) -> Result<(), Fail> {
-    assert!(rt; disk.size() == TWO);
-    disk.write(CLUSTERS, &block(1))?;
-    disk.sync()?;
-    disk.arm(calls);
-    assert!(rt; data.clusters() == 2);
-    assert!(rt; disk.size() == TWO);
-    let staged = data.stage(disk, Some(0), &block(2));
-    assert_eq!(rt; staged.is_err(), calls == 0);
-    let free = if calls == 0 { 1 } else { 0 };
-    assert_eq!(rt; data.free(), free);
-    disk.power(choice);
-    assert!(rt; data.clusters() == 2);
-    assert!(rt; disk.size() == TWO);
-    let mut out = block(0);
-    data.read(disk, 0, &mut out)?;
-    assert_eq!(rt; out, block(1));
+    assert!(rt; staged?);
     Ok(())
 }
 
-fn cuts_a_new_disk<R: Abort>(
-    rt: &R,
+fn commits(disk: &mut MemDisk) -> bool {
+    disk.size() == TWO && disk.write(CLUSTERS, &block(1)).is_ok() && disk.sync().is_ok()
+}
+
+// A stage in place of a committed cluster while so many calls pass, and a power cut: the committed bytes are there.
+fn is_kept(disk: &mut MemDisk, data: &mut Data, calls: u32, choice: Choice) -> bool {
+    let is_committed = commits(disk);
+    disk.arm(calls);
+    let is_staged = match staged(disk, data, true, 2) {
+        Some(staged) => staged.is_ok() == (calls != 0),
+        None => false,
+    };
+    let free = if calls == 0 { 1 } else { 0 };
+    let is_free = data.free() == free;
+    disk.power(choice);
+    is_committed && is_staged && is_free && is_first(disk, data, 1)
+}
+
+fn is_kept_on_a_new_disk(
     alloc: Global,
     data: &mut Data,
     calls: u32,
     choice: Choice,
-) -> Result<(), Fail> {
-    let mut disk = blank(alloc, TWO)?;
-    let done = cuts(rt, &mut disk, data, calls, choice);
+) -> Result<bool, OutOfMemory> {
+    let mut disk = MemDisk::new(alloc, TWO)?;
+    let kept = is_kept(&mut disk, data, calls, choice);
     drop(disk);
-    done
+    Ok(kept)
 }
 
-fn stage_and_cut<R: Abort>(rt: &R, alloc: Global, calls: u32, choice: Choice) -> Result<(), Fail> {
+fn keeps(alloc: Global, calls: u32, choice: Choice) -> Result<bool, OutOfMemory> {
     let mut data = Data::new(alloc, 2, &[0])?;
-    let done = cuts_a_new_disk(rt, alloc, &mut data, calls, choice);
+    let kept = is_kept_on_a_new_disk(alloc, &mut data, calls, choice);
     drop(data);
-    done
+    kept
 }
 
 #[test]
 fn a_crash_keeps_what_is_committed(rt: HostRuntime) -> Result<(), Fail> {
     for calls in 0..3 {
-        stage_and_cut(&rt, rt.alloc(), calls, Choice::Keep)?;
-        stage_and_cut(&rt, rt.alloc(), calls, Choice::Drop)?;
-        stage_and_cut(&rt, rt.alloc(), calls, Choice::Mix(7))?;
+        for choice in [Choice::Keep, Choice::Drop, Choice::Mix(7)] {
+            assert!(rt; keeps(rt.alloc(), calls, choice)?);
+        }
     }
     Ok(())
+}
+
+fn frees_at_a_commit(data: &mut Data) -> bool {
+    drops(data, 2);
+    let before = data.free();
+    data.committed();
+    let after = data.free();
+    drops(data, 2);
+    before == 1 && after == 2 && data.free() == 2
 }
 
 #[test]
 fn a_commit_frees_what_was_dropped(rt: HostRuntime) -> Result<(), Fail> {
     let mut data = Data::new(rt.alloc(), 3, &[2, 0])?;
-    assert!(rt; data.clusters() == 3);
-    data.drop_block(2);
-    assert_eq!(rt; data.free(), 1);
-    data.committed();
-    assert_eq!(rt; data.free(), 2);
-    assert!(rt; data.clusters() == 3);
-    data.drop_block(2);
-    assert_eq!(rt; data.free(), 2);
+    let frees = frees_at_a_commit(&mut data);
+    drop(data);
+    assert!(rt; frees);
     Ok(())
 }

@@ -7,6 +7,7 @@ use cf_codec::Format;
 use cf_disk::{Disk, DiskError, MemDisk};
 use cf_journal::*;
 use std::alloc::Global;
+use std::process::Abort;
 use std::test::Fail;
 
 const SIZE: u64 = 3_145_728;
@@ -42,6 +43,15 @@ fn put_first<D: Disk>(disk: &mut D, slot: &[u8], journal: &[u8]) -> Result<(), D
 // What a journal holds: a record of two bytes, and a closed gate.
 const RECORD: [u8; 8] = [1, 0, 0, 0, 2, 97, 98, 0];
 
+fn is_first(opened: &Opened) -> bool {
+    let payloads = opened.payloads.as_slice();
+    opened.format == Format::First
+        && opened.image.as_slice() == b"one".as_slice()
+        && payloads.len() == 1
+        && payloads[0].as_slice() == b"ab".as_slice()
+        && !opened.journal.fits(0)
+}
+
 // Whether the disk holds the image and the record, in format 1, in which no record has room.
 fn holds_first<D: Disk>(alloc: Global, disk: &mut D) -> Result<bool, JournalError>
     ensures { size_of (D.state disk.new) ≡ size_of (D.state disk.old) }
@@ -50,10 +60,9 @@ fn holds_first<D: Disk>(alloc: Global, disk: &mut D) -> Result<bool, JournalErro
         return Ok(false);
     }
     let opened = Journal::open(alloc, disk)?;
-    let payloads = opened.payloads.as_slice();
-    let is_record = payloads.len() == 1 && payloads[0].as_slice() == b"ab".as_slice();
-    let is_image = opened.image.as_slice() == b"one".as_slice();
-    Ok(opened.format == Format::First && is_image && is_record && !opened.journal.fits(0))
+    let is_so = is_first(&opened);
+    drop(opened);
+    Ok(is_so)
 }
 
 // Whether the disk is no volume.
@@ -63,15 +72,28 @@ fn is_none<D: Disk>(alloc: Global, disk: &mut D) -> bool
     if !Journal::is_fit_size(disk.size()) {
         return false;
     }
-    matches!(Journal::open(alloc, disk), Err(JournalError::NotAVolume))
+    match Journal::open(alloc, disk) {
+        Ok(opened) => {
+            drop(opened);
+            false
+        }
+        Err(error) => error == JournalError::NotAVolume,
+    }
+}
+
+// A disk is lent to what may fail, so that the test lets it go once.
+fn is_opened<R: Abort>(rt: &R, alloc: Global, disk: &mut MemDisk) -> Result<(), Fail> {
+    put_first(disk, &SLOT, &RECORD)?;
+    assert!(rt; holds_first(alloc, disk)?);
+    Ok(())
 }
 
 #[test]
 fn a_slot_of_format_1_is_opened(rt: HostRuntime) -> Result<(), Fail> {
     let mut disk = MemDisk::new(rt.alloc(), SIZE)?;
-    put_first(&mut disk, &SLOT, &RECORD)?;
-    assert!(rt; holds_first(rt.alloc(), &mut disk)?);
-    Ok(())
+    let done = is_opened(&rt, rt.alloc(), &mut disk);
+    drop(disk);
+    done
 }
 
 // A slot with some bytes changed, from a place on.
@@ -87,19 +109,26 @@ fn changed(at: usize, bytes: &[u8]) -> [u8; 28] {
     slot
 }
 
+const BREAKS: [(usize, &[u8]); 5] = [
+    (0, &[0]),
+    (7, &[51]),
+    (15, &[0]),
+    (17, &[15, 240, 1]),
+    (27, &[1]),
+];
+
+fn are_none<R: Abort>(rt: &R, alloc: Global, disk: &mut MemDisk) -> Result<(), Fail> {
+    for (at, bytes) in BREAKS {
+        put_first(disk, &changed(at, bytes), &RECORD)?;
+        assert!(rt; is_none(alloc, disk));
+    }
+    Ok(())
+}
+
 #[test]
 fn a_slot_that_breaks_one_condition_is_none(rt: HostRuntime) -> Result<(), Fail> {
     let mut disk = MemDisk::new(rt.alloc(), SIZE)?;
-    let breaks: [(usize, &[u8]); 5] = [
-        (0, &[0]),
-        (7, &[51]),
-        (15, &[0]),
-        (17, &[15, 240, 1]),
-        (27, &[1]),
-    ];
-    for (at, bytes) in breaks {
-        put_first(&mut disk, &changed(at, bytes), &RECORD)?;
-        assert!(rt; is_none(rt.alloc(), &mut disk));
-    }
-    Ok(())
+    let done = are_none(&rt, rt.alloc(), &mut disk);
+    drop(disk);
+    done
 }

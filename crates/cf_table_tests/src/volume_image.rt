@@ -236,18 +236,26 @@ fn put_zero(out: &mut Writer) -> Result<(), OutOfMemory> {
     out.put_u32(0)
 }
 
+fn is_image(alloc: Global, image: &[u8]) -> bool {
+    match read_image(alloc, image, Format::Second) {
+        Ok(contents) => {
+            drop(contents);
+            true
+        }
+        Err(_) => false,
+    }
+}
+
 #[test]
 fn an_item_0_is_no_volume(rt: HostRuntime) -> Result<(), Fail> {
     let mut out = start(rt.alloc(), 2)?;
     let put = put_zero(&mut out);
     let image = out.into_blob();
-    let is_image = read_image(rt.alloc(), image.as_slice(), Format::Second)
-        .ok()
-        .is_some();
+    let is_read = is_image(rt.alloc(), image.as_slice());
     let told = why(rt.alloc(), image.as_slice(), 0);
     drop(image);
     put?;
-    assert!(rt; is_image && told == Some(ImageError::Unsound));
+    assert!(rt; is_read && told == Some(ImageError::Unsound));
     Ok(())
 }
 
