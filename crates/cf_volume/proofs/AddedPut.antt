@@ -24,7 +24,7 @@ use Rattle.cf_volume_points.proofs.RowChanges.{found_with}
 use Rattle.cf_volume_points.proofs.Stages.{moves_none}
 use Rattle.cf_volume_points.specs.At.{At}
 use Rattle.cf_volume_points.specs.Clusters.{clusters_in_row, clusters_in_rows, once, times}
-use Rattle.cf_volume_points.specs.Holding.{FitsTable, HoldsRow}
+use Rattle.cf_volume_points.specs.Holding.{CountsMore, FitsTable, HoldsRow}
 use Rattle.cf_volume_points.specs.Known.{Known, row_then}
 use Rattle.cf_volume_points.specs.Staging.{Moves}
 use Rattle.cf_volume_points.specs.Standing.{cluster_on}
@@ -49,22 +49,22 @@ known_added next rows then' p rises high key = elim (cases_eq p.id.0 key.0) [
 none_above_all : (e p : ℕ) → (ltb 0 e || (eqb e 0 && ltb 0 (p + 1 + 1))) ≡ true
 none_above_all e p = grind (arith, nat_tests)
 
-module _ (s t : State) (k : Known) (p : Row) (uses : List Use) (after : Table) (steady : Steady (size_of s) k) (rises : RisesFrom 0 k.table.rows) (new : All (λ r. r.id.0 < p.id.0) k.table.rows) (next : k.table.next.0 ≤ p.id.0)
+module _ (s t : State) (k : Known) (p : Row) (uses : List Use) (since : ℕ) (after : Table) (steady : Steady (size_of s) k) (rises : RisesFrom 0 k.table.rows) (new : All (λ r. r.id.0 < p.id.0) k.table.rows) (next : k.table.next.0 ≤ p.id.0)
     (after_is : after ≡ record { rows = with_row p k.table.rows; next = record { 0 = p.id.0 + 1 } }) where
   abbrev pub after_known : Known
-  after_known = record k { uses = uses; table = after; place = k.place + 1; count = k.count + 1 }
+  after_known = record k { uses = uses; table = after; place = k.place + 1; count = k.count + 1; put_since = since }
 
-  pub added_put : (v : Volume) (c : Change) (i : Item) (n : ℕ) → Fair s → At s k v → Arrives c v p i → HoldsRow (cluster_on t.seen) v.book p i → Moves n s t k.uses uses → Leaves s t (KeepsWhere IsCommitted k.uses s) → n ≤ length (puts_into v.items c)
+  pub added_put : (v : Volume) (c : Change) (i : Item) (n : ℕ) → Fair s → At s k v → Arrives c v p i → HoldsRow (cluster_on t.seen) v.book p i → Moves n s t k.uses uses → Leaves s t (KeepsWhere IsCommitted k.uses s) → length (puts_into v.items c) ≡ n → CountsMore k.put_since n since
       → ((j : ℕ) → times j (clusters_in_rows k.table.rows) + times j (clusters_in_row p) ≡ once uses j) → ((j : ℕ) → 1 ≤ times j (clusters_in_rows k.table.rows) → cluster_on t.seen j ≡ cluster_on s.seen j)
       → FitsTable (put_change c v).items (put_change c v).book → At t after_known (put_change c v)
-  added_put v c i n fair at arrives row moves leaves puts owned same fits =
+  added_put v c i n fair at arrives row moves leaves puts counts owned same fits =
       let number : p.id.0 + 1 ≡ max v.next_item.0 (next_by c) = omega (arith, ap (λ (x : ItemId). x.0) at.now.next, next, arrives.next) in
-      subst (λ (x : Table). At t (record k { uses = uses; table = x; place = k.place + 1; count = k.count + 1 }) (put_change c v)) (sym after_is)
-      (added_at s t k v c p i n uses (record { 0 = p.id.0 + 1 }) fair at new row arrives.items arrives.book moves leaves puts owned same (λ j. record { 0 = number j }) fits
+      subst (λ (x : Table). At t (record k { uses = uses; table = x; place = k.place + 1; count = k.count + 1; put_since = since }) (put_change c v)) (sym after_is)
+      (added_at s t k v c p i n since uses (record { 0 = p.id.0 + 1 }) fair at new row arrives.items arrives.book moves leaves puts counts owned same (λ j. record { 0 = number j }) fits
       (known_added k.next_then k.table.rows k.rows_then p rises (omega (arith, next, steady.earlier))))
 
   pub added_steady : size_of t ≡ size_of s → length uses ≡ length k.uses → All (λ j. j < length uses) (clusters_in_row p) → HasRoom p → p.number ≡ usn_after k.epoch k.place → p.anchor ≡ no_usn → Steady (size_of t) after_known
-  added_steady size long inside room number anchor = subst (λ (x : Table). Steady (size_of t) (record k { uses = uses; table = x; place = k.place + 1; count = k.count + 1 })) (sym after_is) (record {
+  added_steady size long inside room number anchor = subst (λ (x : Table). Steady (size_of t) (record k { uses = uses; table = x; place = k.place + 1; count = k.count + 1; put_since = since })) (sym after_is) (record {
     fit = subst IsFitSize (sym size) steady.fit;
     clusters = long ∙ steady.clusters ∙ ap (λ (n : ℕ). (n - 3145728) / 4096) (sym size);
     inside = inside_with (λ j. j < length uses) p k.table.rows inside (subst (λ (n : ℕ). All (λ j. j < n) (clusters_in_rows k.table.rows)) (sym long) steady.inside);
@@ -76,21 +76,16 @@ module _ (s t : State) (k : Known) (p : Row) (uses : List Use) (after : Table) (
     usable = steady.usable;
   })
 
--- another count of the blocks put
-pub steady_counted : (size : ℕ) (k : Known) (n : ℕ) → Steady size k → Steady size (record k { put_since = n })
-steady_counted size k n steady =
-    record { fit = steady.fit; clusters = steady.clusters; inside = steady.inside; room = steady.room; later = steady.later; earlier = steady.earlier; usable = steady.usable }
-
 -- a row without a byte
 
 module _ (s : State) (k : Known) (p : Row) (after : Table) (steady : Steady (size_of s) k) (rises : RisesFrom 0 k.table.rows) (new : All (λ r. r.id.0 < p.id.0) k.table.rows) (next : k.table.next.0 ≤ p.id.0) (fresh : IsFresh p)
     (after_is : after ≡ record { rows = with_row p k.table.rows; next = record { 0 = p.id.0 + 1 } }) where
   pub made_put : (v : Volume) (c : Change) (i : Item) (n : ℕ) → Fair s → At s k v → IsMade c v p i n → FitsTable (put_change c v).items (put_change c v).book → At s (record k { table = after; place = k.place + 1; count = k.count + 1 }) (put_change c v)
   made_put v c i n fair at made fits =
-      added_put s s k p k.uses after steady rises new next after_is v c i 0 fair at made.arrives (fresh_row s k v p i at new made.arrives.means n fresh made.held)
-      (moves_none s k.uses) (record { later = omega arith; now = λ d left. (d, left, same_here IsCommitted k.uses d); since = λ t d le left. inl left }) (omega arith)
+      added_put s s k p k.uses k.put_since after steady rises new next after_is v c i 0 fair at made.arrives (fresh_row s k v p i at new made.arrives.means n fresh made.held)
+      (moves_none s k.uses) (record { later = omega arith; now = λ d left. (d, left, same_here IsCommitted k.uses d); since = λ t d le left. inl left }) (ap length made.puts) (record { most = omega arith; exact = λ small. omega arith })
       (λ j. let none : times j (clusters_in_row p) ≡ 0 = ap (λ (es : List (ℕ × ℕ)). times j (map (λ (e : ℕ × ℕ). e.1) es)) fresh.extents in let owns = at.now.owns j in omega (arith, none, owns)) (λ j some. refl) fits
 
   pub made_steady : HasRoom p → p.number ≡ usn_after k.epoch k.place → Steady (size_of s) (record k { table = after; place = k.place + 1; count = k.count + 1 })
-  made_steady room number = added_steady s s k p k.uses after steady rises new next after_is refl refl
+  made_steady room number = added_steady s s k p k.uses k.put_since after steady rises new next after_is refl refl
       (subst (λ (es : List (ℕ × ℕ)). All (λ j. j < length k.uses) (clusters_in_row (record p { extents = es }))) (sym fresh.extents) (All-nil (λ j. j < length k.uses))) room number fresh.anchor

@@ -1,5 +1,5 @@
 -- A planned change of an item that stays, carried out, is one more change of the volume.
-use Rattle.std.proofs.Common.{◌≡◌, ℕ, ◌+◌, true, List, [], sym, ◌∙◌, ap, subst}
+use Rattle.std.proofs.Common.{◌≡◌, ℕ, ◌+◌, true, List, [], length, sym, ◌∙◌, ap, subst}
 use Rattle.cf_base.specs.declared.changes.Change.{Change}
 use Rattle.cf_base.specs.declared.ids.ItemId.{ItemId}
 use Rattle.cf_volume_blocks.specs.Bytes.{puts_in}
@@ -11,7 +11,7 @@ use Rattle.cf_model.specs.State.{Volume}
 use Rattle.cf_volume_points.proofs.ItemChanges.{changed_at}
 use Rattle.cf_volume_points.proofs.Points.{Fair}
 use Rattle.cf_volume_points.specs.At.{At}
-use Rattle.cf_volume_points.specs.Holding.{FitsTable}
+use Rattle.cf_volume_points.specs.Holding.{CountsMore, FitsTable}
 use Rattle.cf_volume_points.specs.Staging.{AreBlocks}
 use Rattle.cf_volume_points.specs.Standing.{cluster_on}
 use Rattle.cf_volume_points.specs.Known.{Known, row_then}
@@ -42,11 +42,11 @@ with_extents r es i h = record {
   bytes = record { size = h.bytes.size; even = h.bytes.even; numbers = h.bytes.numbers; dirty = h.bytes.dirty; dirty_since = h.bytes.dirty_since; here = h.bytes.here; valid = h.bytes.valid; modified = h.bytes.modified; modified_since = h.bytes.modified_since };
 }
 
-module _ (s t : State) (k : Known) (v : Volume) (c : Change) (planned : Row) (uses : List Use) (blocks : List ℕ) (after : Table) (then' : List Row) (fair : Fair s) (at : At s k v) (rises : RisesFrom 0 k.table.rows) (kind : stays c ≡ true)
+module _ (s t : State) (k : Known) (v : Volume) (c : Change) (planned : Row) (uses : List Use) (blocks : List ℕ) (since : ℕ) (after : Table) (then' : List Row) (fair : Fair s) (at : At s k v) (rises : RisesFrom 0 k.table.rows) (kind : stays c ≡ true)
     (carries : Carries c (item_of_change c) planned blocks s t k.uses uses k.table after)
     (rising : IsRising carries.row.extents)
     (means : (i : Item) → Means carries.row i → Means planned (item_effect c (pin_for c k.table.rows) (next_number v) i)) (rest : KeepsRest carries.row planned) (runs : IsRuns planned.here)
-    (puts_are : (i : Item) → Means carries.row i → blocks ≡ puts_in c i.held) (in_order : AreRising 0 blocks) (fits : FitsTable (put_change c v).items (put_change c v).book)
+    (puts_are : (i : Item) → Means carries.row i → blocks ≡ puts_in c i.held) (counts : CountsMore k.put_since (length blocks) since) (in_order : AreRising 0 blocks) (fits : FitsTable (put_change c v).items (put_change c v).book)
     (known : (id : ItemId) → row_then id then' k.next_then (row_of after.rows id) ≡ row_then id k.rows_then k.next_then (row_of k.table.rows id)) where
   abbrev after_row : Row
   after_row = record planned { extents = carries.extents }
@@ -57,9 +57,9 @@ module _ (s t : State) (k : Known) (v : Volume) (c : Change) (planned : Row) (us
   means_after : (i : Item) → Means carries.row i → Means after_row (item_effect c (pin_for c k.table.rows) (next_number v) i)
   means_after i m = with_extents planned carries.extents (item_effect c (pin_for c k.table.rows) (next_number v) i) (means i m)
 
-  pub carried_at : At t (record k { uses = uses; table = after; place = k.place + 1; count = k.count + 1; rows_then = then' }) (put_change c v)
-  carried_at = subst (λ (x : Table). At t (record k { uses = uses; table = x; place = k.place + 1; count = k.count + 1; rows_then = then' }) (put_change c v)) (sym carries.table)
-      (changed_at s t k v c carries.row after_row carries.settles.mid uses blocks carries.settles.between then' fair at rises rising kind carries.found means_after rest.id rest.anchor rest.last runs puts_are
+  pub carried_at : At t (record k { uses = uses; table = after; place = k.place + 1; count = k.count + 1; rows_then = then'; put_since = since }) (put_change c v)
+  carried_at = subst (λ (x : Table). At t (record k { uses = uses; table = x; place = k.place + 1; count = k.count + 1; rows_then = then'; put_since = since }) (put_change c v)) (sym carries.table)
+      (changed_at s t k v c carries.row after_row carries.settles.mid uses blocks since carries.settles.between then' fair at rises rising kind carries.found means_after rest.id rest.anchor rest.last runs puts_are counts
       carries.settles.all.moves carries.settles.all.leaves
       (λ r was i m start. carries.settles.all.each r was i (pin_for c k.table.rows) (next_number v) m in_order (subst (λ (es : List (ℕ × ℕ)). AreBlocks r was i.held (item_effect c (pin_for c k.table.rows) (next_number v) i).held [] k.uses es (cluster_on s.seen)) (sym rest.extents) start))
       carries.settles.drops fits

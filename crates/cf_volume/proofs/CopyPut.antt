@@ -20,13 +20,12 @@ use Rattle.cf_model.specs.Words.{part}
 use Rattle.cf_volume_points.proofs.Extents.{named_once}
 use Rattle.cf_volume_points.proofs.FileRows.{final_blocks, final_bytes, hold_at}
 use Rattle.cf_volume_points.proofs.ItemChanges.{row_holds}
-use Rattle.cf_volume_points.proofs.Loads.{counted_at}
 use Rattle.cf_volume_points.proofs.NewItems.{new_noted}
 use Rattle.cf_volume_points.proofs.Points.{Fair}
 use Rattle.cf_volume_points.proofs.RowChanges.{named_by, times_split}
 use Rattle.cf_volume_points.specs.At.{At}
 use Rattle.cf_volume_points.specs.Clusters.{clusters_in_row, clusters_in_rows, times}
-use Rattle.cf_volume_points.specs.Holding.{FitsTable, HoldsRow}
+use Rattle.cf_volume_points.specs.Holding.{CountsMore, FitsTable, HoldsRow}
 use Rattle.cf_volume_points.specs.Known.{Known}
 use Rattle.cf_volume_points.specs.Staging.{AreBlocks}
 use Rattle.cf_volume_points.specs.Standing.{cluster_on}
@@ -34,7 +33,7 @@ use Rattle.cf_ranges.specs.Pairs.{cluster_at}
 use Rattle.cf_table.specs.Means.{IsFresh}
 use Rattle.cf_table.specs.Tables.{AreTableRows, RisesFrom, Table, row_of, with_row}
 use Rattle.cf_table.specs.declared.rows.Row.{Row}
-use Rattle.cf_volume.proofs.AddedPut.{added_put, added_steady, steady_counted}
+use Rattle.cf_volume.proofs.AddedPut.{added_put, added_steady}
 use Rattle.cf_volume.proofs.Carried.{with_extents}
 use Rattle.cf_volume.proofs.Puts.{found_table, inside_named}
 use Rattle.cf_volume.specs.Copies.{AreSources, Duplicates, blocks_of}
@@ -65,8 +64,7 @@ module _ (s t : State) (k : Known) (p : Row) (from : ItemId) (uses : List Use) (
   table_is = after_is ∙ ap (λ (x : Table). record x { next = record { 0 = p.id.0 + 1 } }) copied.table
 
   pub copied_steady : p.number ≡ usn_after k.epoch k.place → Steady (size_of t) copied_known
-  copied_steady number = steady_counted (size_of t) (record k { uses = uses; table = after; place = k.place + 1; count = k.count + 1 }) count
-      (added_steady s t k row uses after steady rises new next table_is copied.all.moves.size copied.all.moves.long (inside_named (λ j. j < length uses) 0 es copied.all.rising copied.all.inside) copied.room number fresh.anchor)
+  copied_steady number = added_steady s t k row uses count after steady rises new next table_is copied.all.moves.size copied.all.moves.long (inside_named (λ j. j < length uses) 0 es copied.all.rising copied.all.inside) copied.room number fresh.anchor
 
   -- how often rows name a cluster
   abbrev rest : ℕ → ℕ
@@ -133,10 +131,9 @@ module _ (s t : State) (k : Known) (p : Row) (from : ItemId) (uses : List Use) (
     puts : length (puts_into v.items c) ≡ length source
     puts = copy_puts s k v c p copied.source i from at copied.found copy
 
-    pub copied_put : Fair s → FitsTable (put_change c v).items (put_change c v).book → count ≤ k.put_since + length source → At t copied_known (put_change c v)
-    copied_put fair fits few = counted_at t (record k { uses = uses; table = after; place = k.place + 1; count = k.count + 1 }) (put_change c v) count
-        (added_put s t k row uses after steady rises new next table_is v c i (length source) fair at arrives row_is copied.all.moves copied.all.leaves (omega (arith, puts)) (λ j. blocks.owns j) (λ j some. blocks.others j some) fits)
-        (omega (arith, at.now.load, few, puts))
+    pub copied_put : Fair s → FitsTable (put_change c v).items (put_change c v).book → CountsMore k.put_since (length source) count → At t copied_known (put_change c v)
+    copied_put fair fits counts =
+        added_put s t k row uses count after steady rises new next table_is v c i (length source) fair at arrives row_is copied.all.moves copied.all.leaves puts counts (λ j. blocks.owns j) (λ j some. blocks.others j some) fits
       where
         arrives : Arrives c v row i
         arrives = let h = copy.arrives in record { means = with_extents p es i h.means; items = h.items; book = h.book; next = h.next; longer = h.longer; id = h.id }

@@ -1,5 +1,5 @@
 -- A removal as a call.
-use Rattle.std.proofs.Common.{◌≡◌, ℕ, ◌^◌, ◌<◌, List, [], ◌∷◌, refl, ◌∙◌, subst, Option, Some, None}
+use Rattle.std.proofs.Common.{◌≡◌, ℕ, ◌^◌, ◌<◌, true, false, List, [], ◌∷◌, refl, ◌∙◌, subst, Option, Some, None}
 use Rattle.std.specs.Prelude.{All, Ok}
 use Rattle.std.proofs.lemmas.List.Elements.{All-nil}
 use Rattle.cf_base.specs.declared.answers.AuxRecord.{AuxRecord}
@@ -9,7 +9,7 @@ use Rattle.cf_base.specs.declared.ids.ItemId.{ItemId}
 use Rattle.cf_base.specs.declared.ids.Usn.{Usn}
 use Rattle.cf_clusters.specs.declared.uses.Use.{Use}
 use Rattle.cf_disk.specs.Disk.{State}
-use Rattle.cf_model.specs.Changes.{put_change, why_no_room}
+use Rattle.cf_model.specs.Changes.{may_need_room, put_change, why_no_room}
 use Rattle.cf_model.specs.Formats.{without_record}
 use Rattle.cf_model.specs.Numbers.{most, usn_after}
 use Rattle.cf_model.specs.State.{Volume}
@@ -87,3 +87,24 @@ gone_why s k v (change.Take item identity bytes) at left is = absurd is
 gone_why s k v (change.Copy item from parent name) at left is = absurd is
 gone_why s k v (change.Populated item) at left is = absurd is
 gone_why s k v (change.Keep item on) at left is = absurd is
+
+-- nor does it put a block
+pub nothing_gone : (c : Change) (v : Volume) → IsRemove c → may_need_room c v ≡ false
+nothing_gone (change.Make item parent name kind size identity) v is = absurd is
+nothing_gone (change.Remove item) v is = refl
+nothing_gone (change.Move item parent name) v is = absurd is
+nothing_gone (change.Write item start bytes) v is = absurd is
+nothing_gone (change.Size item bytes) v is = absurd is
+nothing_gone (change.Filled item start bytes) v is = absurd is
+nothing_gone (change.Validated item start len) v is = absurd is
+nothing_gone (change.Emptied item start len) v is = absurd is
+nothing_gone (change.SetPin item state) v is = absurd is
+nothing_gone (change.Mark item number) v is = absurd is
+nothing_gone (change.Clear item) v is = absurd is
+nothing_gone (change.Convert item identity) v is = absurd is
+nothing_gone (change.Revert item) v is = absurd is
+nothing_gone (change.Rebase item identity len start) v is = absurd is
+nothing_gone (change.Take item identity bytes) v is = absurd is
+nothing_gone (change.Copy item from parent name) v is = absurd is
+nothing_gone (change.Populated item) v is = absurd is
+nothing_gone (change.Keep item on) v is = absurd is

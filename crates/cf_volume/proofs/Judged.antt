@@ -1,5 +1,5 @@
 -- Whether a change is refused, by the tests of the program.
-use Rattle.std.proofs.Common.{◌≡◌, inl, inr, ⊎_elim, ℕ, zero, suc, ◌+◌, ◌*◌, ◌<◌, Bool, true, false, ◌||◌, ◌&&◌, cond, ltb, List, [], ◌∷◌, length, min, refl, sym, ◌∙◌, ap, subst, arith, Option, Some, None}
+use Rattle.std.proofs.Common.{◌≡◌, inl, inr, ⊎_elim, ℕ, zero, suc, ◌+◌, ◌*◌, ◌<◌, ◌≤◌, Bool, true, false, ◌||◌, ◌&&◌, cond, ltb, List, [], ◌∷◌, length, min, refl, sym, ◌∙◌, ap, subst, arith, Option, Some, None}
 use Rattle.std.specs.Prelude.{sum_by}
 use Rattle.std.proofs.lemmas.Bool.{cases_Bool, le-ltb, lt-ltb, true≢false}
 use Rattle.std.proofs.lemmas.Option.{same_Some}
@@ -40,7 +40,7 @@ use Rattle.cf_table.specs.Tables.{AreTableRows, RisesFrom, row_of}
 use Rattle.cf_table.specs.declared.rows.Row.{Row}
 use Rattle.cf_volume.proofs.Puts.{found_table}
 use Rattle.cf_volume.specs.Laid.{Plans}
-use Rattle.cf_volume.specs.Waits.{MayWait, passes}
+use Rattle.cf_volume.specs.Waits.{IsLight, MayWait, passes}
 
 pub passes_is : (clusters : ℕ) (items : List Item) (n : ℕ) → passes_clusters clusters items n ≡ passes clusters (blocks_used items) n
 passes_is clusters items zero = refl
@@ -52,9 +52,21 @@ passes_more : (clusters : ℕ) (items : List Item) (n : ℕ) → 0 < n → passe
 passes_more clusters items zero h = absurd (omega (arith, h))
 passes_more clusters items (suc n) h = refl
 
+passes_less : (clusters : ℕ) (items : List Item) (n : ℕ) → blocks_used items + n ≤ clusters → passes_clusters clusters items n ≡ false
+passes_less clusters items zero few = refl
+passes_less clusters items (suc n) few = le-ltb clusters (blocks_used items + suc n) few
+
 both_true : (a b : Bool) → a ≡ true → b ≡ true → (a && b) ≡ true
 both_true true b e f = f
 both_true false b e f = absurd (true≢false (sym e))
+
+and_false : (b : Bool) → (b && false) ≡ false
+and_false true = refl
+and_false false = refl
+
+-- a change that puts no block needs no commit before it
+pub nothing_needed : (c : Change) (v : Volume) → length (puts_into v.items c) ≡ 0 → may_need_room c v ≡ false
+nothing_needed c v none = ap (λ (b : Bool). b && passes_clusters v.clusters v.items_then (v.put_since + length (puts_into v.items c))) (le-ltb 0 (length (puts_into v.items c)) (omega (arith, none)))
 
 module _ (s : State) (k : Known) (v : Volume) (c : Change) (n : ℕ) (at : At s k v) (puts : length (puts_into v.items c) ≡ n) where
   pub clusters_full : is_full v.clusters v.items c ≡ passes k.limit (how_many is_now k.uses) n
@@ -75,6 +87,18 @@ module _ (s : State) (k : Known) (v : Volume) (c : Change) (n : ℕ) (at : At s 
   room_needed waits = ⊎_elim
       (λ few. room_past (omega (arith, few)) (omega (arith, few, puts, at.now.used, at.now.clusters, at.now.within)))
       (λ heavy. room_past heavy.0 (omega (arith, heavy.1, puts, at.now.load, at.now.clusters))) waits
+
+  -- nor does one before which the blocks are few enough
+  room_left : IsLight k n → may_need_room c v ≡ false
+  room_left light = ⊎_elim
+      (λ none. nothing_needed c v (omega (arith, puts, none)))
+      (λ few. ap (λ (b : Bool). ltb 0 (length (puts_into v.items c)) && b)
+      (passes_less v.clusters v.items_then (v.put_since + length (puts_into v.items c)) (omega (arith, few.1, at.now.exact few.0, puts, at.now.clusters)))
+      ∙ and_false (ltb 0 (length (puts_into v.items c)))) light
+
+  -- so where the disk wants a commit here and the change does not wait
+  pub put_wanted : (aim : Option ℕ) → (aim ≡ Some k.count → IsLight k n) → aim ≡ Some (length v.log) → may_need_room c v ≡ false
+  put_wanted aim light here = room_left (light (here ∙ ap Some (sym at.now.count)))
 
 or_false : (b : Bool) → (b || false) ≡ b
 or_false true = refl

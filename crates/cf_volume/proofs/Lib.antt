@@ -39,3 +39,4 @@ pub mod DraftFlags
 pub mod FirstDraft
 pub mod BesideRoom
 pub mod BlocksAhead
+pub mod Counting

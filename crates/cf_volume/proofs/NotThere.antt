@@ -28,7 +28,7 @@ use Rattle.cf_volume_points.proofs.ItemChanges.{rows_mean}
 use Rattle.cf_volume_points.proofs.LogSteps.{next_least, put_of_log, same_front, stays_book, stays_next, stays_puts}
 use Rattle.cf_volume_points.proofs.RowRoom.{fits_of}
 use Rattle.cf_volume_points.specs.At.{At, Kept}
-use Rattle.cf_volume_points.specs.Holding.{FitsTable, HoldRows}
+use Rattle.cf_volume_points.specs.Holding.{CountsMore, FitsTable, HoldRows}
 use Rattle.cf_volume_points.specs.Known.{Known}
 use Rattle.cf_volume_points.specs.Standing.{IsBookOf, cluster_on}
 use Rattle.cf_table.proofs.Lengths.{rows_are_items}
@@ -134,8 +134,12 @@ module _ (s : State) (k : Known) (v : Volume) (c : Change) (at : At s k v) (kind
       refusal_is c v false full (numbers_left c v (needs_no_id c kind) (omega (arith, left, at.now.place))) not_full
       (passes_is v.clusters v.items (length (puts_into v.items c)) ∙ (λ j. passes (at.now.clusters j) (used j) (length (puts j))) ∙ sym test)
 
-  pub absent_at : At s (record k { place = k.place + 1; count = k.count + 1 }) (put_change c v)
-  absent_at = record {
+  -- how many blocks it puts
+  pub absent_puts : length (puts_into v.items c) ≡ length (puts_in c [])
+  absent_puts = ap length puts
+
+  pub absent_at : (since : ℕ) → CountsMore k.put_since (length (puts_in c [])) since → At s (record k { place = k.place + 1; count = k.count + 1; put_since = since }) (put_change c v)
+  absent_at since counts = record {
     last = record {
       point = at.last.point;
       earlier = at.last.earlier;
@@ -161,6 +165,7 @@ module _ (s : State) (k : Known) (v : Volume) (c : Change) (at : At s k v) (kind
       within = at.now.within;
       fits = still_fits;
       used = omega (arith, at.now.used);
-      load = omega (arith, at.now.load);
+      load = omega (arith, at.now.load, counts.most, absent_puts);
+      exact = λ small. let more = counts.exact small in omega (arith, more, at.now.exact (omega (arith, more, small)), absent_puts);
     };
   }

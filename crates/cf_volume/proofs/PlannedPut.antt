@@ -11,10 +11,9 @@ use Rattle.cf_disk.specs.Disk.{State, size_of}
 use Rattle.cf_model.specs.Changes.{next_number, put_change}
 use Rattle.cf_model.specs.Numbers.{usn_after}
 use Rattle.cf_model.specs.State.{Volume}
-use Rattle.cf_volume_points.proofs.Loads.{counted_at}
 use Rattle.cf_volume_points.proofs.Points.{Fair}
 use Rattle.cf_volume_points.specs.At.{At}
-use Rattle.cf_volume_points.specs.Holding.{FitsTable}
+use Rattle.cf_volume_points.specs.Holding.{CountsMore, FitsTable}
 use Rattle.cf_volume_points.proofs.ItemChanges.{row_holds}
 use Rattle.cf_volume_points.specs.Clusters.{clusters_in_row, clusters_in_rows}
 use Rattle.cf_volume_points.specs.Standing.{cluster_on}
@@ -29,7 +28,6 @@ use Rattle.cf_table.specs.Spelling.{HasRoom}
 use Rattle.cf_table.specs.Tables.{AreTableRows, RisesFrom, Table, row_of}
 use Rattle.cf_table.specs.declared.rows.Row.{Row}
 use Rattle.cf_volume.proofs.Carried.{carried_at}
-use Rattle.cf_volume.proofs.Judged.{plan_puts}
 use Rattle.cf_volume.proofs.Noted.{found_id}
 use Rattle.cf_volume.proofs.Puts.{all_with, found_inside, found_table, inside_named, inside_with, known_with, named_inside, next_with, puts_rise, some_row}
 use Rattle.cf_volume.specs.Laid.{AreRising, Carries, Plans}
@@ -90,14 +88,11 @@ module _ (s t : State) (k : Known) (c : Change) (planned : Row) (blocks : List �
     })
 
     pub planned_at : (v : Volume) → Fair s → At s k v → stays c ≡ true → FitsTable (put_change c v).items (put_change c v).book
-        → count ≤ k.put_since + length blocks → At t (record k { uses = uses; table = after; place = k.place + 1; count = k.count + 1; rows_then = then'; put_since = count }) (put_change c v)
-    planned_at v fair at kind fits few =
-        let puts = plan_puts s k v c (pin_for c k.table.rows) (usn_after k.epoch k.place) row planned blocks at kind carries.found facts in
+        → CountsMore k.put_since (length blocks) count → At t (record k { uses = uses; table = after; place = k.place + 1; count = k.count + 1; rows_then = then'; put_since = count }) (put_change c v)
+    planned_at v fair at kind fits counts =
         let number : usn_after k.epoch k.place ≡ next_number v = (λ i. usn_after (at.now.epoch i) (at.now.place i)) in
         let here = row_holds (cluster_on s.seen) v.book k.table.rows v.items (item_of_change c) row at.now.rows carries.found in
-        counted_at t (record k { uses = uses; table = after; place = k.place + 1; count = k.count + 1; rows_then = then' }) (put_change c v) count
-        (carried_at s t k v c planned uses blocks after then' fair at rises kind carries (found_table k.table.rows (item_of_change c) row table carries.found).stored.extents
-        (λ i m. subst (λ (n : Usn). Means planned (item_effect c (pin_for c k.table.rows) n i)) number (facts.means i m)) facts.rest facts.stored.here facts.puts
+        carried_at s t k v c planned uses blocks count after then' fair at rises kind carries (found_table k.table.rows (item_of_change c) row table carries.found).stored.extents
+        (λ i m. subst (λ (n : Usn). Means planned (item_effect c (pin_for c k.table.rows) n i)) number (facts.means i m)) facts.rest facts.stored.here facts.puts counts
         (subst (λ (l : List ℕ). AreRising 0 l) (sym (facts.puts here.0 here.2.means)) (puts_rise c here.0.held)) fits
-        (λ id. ap (λ (x : Table). row_then id then' k.next_then (row_of x.rows id)) carries.table ∙ known_with (item_of_change c) k.next_then k.table.rows k.rows_then then' after_row rises id_is present notes id))
-        (omega (arith, at.now.load, few, puts))
+        (λ id. ap (λ (x : Table). row_then id then' k.next_then (row_of x.rows id)) carries.table ∙ known_with (item_of_change c) k.next_then k.table.rows k.rows_then then' after_row rises id_is present notes id)

@@ -18,7 +18,7 @@ use Rattle.cf_model.specs.State.{Volume}
 use Rattle.cf_volume_points.specs.At.{At, StandsLast, StandsNow}
 use Rattle.cf_volume_points.specs.Known.{Known}
 use Rattle.cf_volume_points.specs.Standing.{Standing}
-use Rattle.cf_volume.specs.Accepted.{IsDone, IsJudged}
+use Rattle.cf_volume.specs.Accepted.{FollowsAim, IsDone, IsJudged}
 use Rattle.cf_volume.specs.Calls.{Answers, IsKept, IsStopping, OnDisk, StopsOnly}
 
 -- a room point is the volume now
@@ -60,6 +60,15 @@ judged_none c v (Some n) e h = absurd (true≢false e)
 pub done_some : (c : Change) (v : Volume) (t : State) (k : Known) (o : Option Usn) → is_some o ≡ true → IsDone c v t k (Ok o) → At t k (put_change c v)
 done_some c v t k None e h = absurd (true≢false (sym e))
 done_some c v t k (Some n) e h = h
+
+-- where the disk wants a commit
+pub followed_some : (c : Change) (v : Volume) (s : State) (o : Option Usn) → is_some o ≡ true → FollowsAim c v s (Ok o) → s.settings.aim ≡ Some (length v.log) → may_need_room c v ≡ false
+followed_some c v s None e h = absurd (true≢false (sym e))
+followed_some c v s (Some n) e h = h
+
+pub followed_none : (c : Change) (v : Volume) (s : State) (o : Option Usn) → is_some o ≡ false → FollowsAim c v s (Ok o) → (n : ℕ) → s.settings.aim ≡ Some n → n ≡ length v.log
+followed_none c v s None e h = h
+followed_none c v s (Some n) e h = absurd (true≢false e)
 
 pub kept_none : {D : Type 0} → (d f : D) (k l : Known) (o : Option Usn) → is_some o ≡ false → IsKept d k (Ok o) f l → (f ≡ d) × (l ≡ k)
 kept_none {D} d f k l None e h = h

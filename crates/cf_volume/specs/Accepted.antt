@@ -1,5 +1,5 @@
 -- Changes put where numbers are left, in parts.
-use Rattle.std.specs.Prelude.{◌≡◌, ◌⊎◌, ℕ, true, [], ◌∷◌, Option, None, Some, Result, Ok, Err}
+use Rattle.std.specs.Prelude.{◌≡◌, ◌⊎◌, ℕ, true, false, [], ◌∷◌, length, Option, None, Some, Result, Ok, Err}
 use Rattle.cf_base.specs.declared.changes.Change.{Change}
 use Rattle.cf_base.specs.declared.codes.Code.TheVariants.{Device}
 use Rattle.cf_base.specs.declared.codes.CallError.{CallError}
@@ -24,6 +24,13 @@ abbrev pub IsDone : Change → Volume → State → Known → Result (Option Usn
 IsDone c v t new (Ok (Some n)) = At t new (put_change c v)
 IsDone c v t new (Ok None) = Unit {0}
 IsDone c v t new (Err e) = Unit {0}
+
+-- A change waits for room only where the disk wants a commit here, or nowhere. One that is put needs no room where the disk
+-- wants a commit here.
+abbrev pub FollowsAim : Change → Volume → State → Result (Option Usn) CallError → Type 0
+FollowsAim c v s (Ok (Some n)) = s.settings.aim ≡ Some (length v.log) → may_need_room c v ≡ false
+FollowsAim c v s (Ok None) = (n : ℕ) → s.settings.aim ≡ Some n → n ≡ length v.log
+FollowsAim c v s (Err e) = Unit {0}
 
 -- what holds of the parts holds on, unless the device or memory stopped the call
 abbrev pub StaysSteady : {A : Type 0} → ℕ → Known → Result A CallError → Type 0

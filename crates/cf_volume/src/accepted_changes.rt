@@ -56,11 +56,14 @@ impl<D: Disk> Volume<D> {
         }
     }
 
-    /// Adds one change, and gives its number. It is durable with the next commit. Where it needs more clusters than are
-    /// free, but no more than a commit makes free, a commit comes first. One also comes first where the disk wants it at this
-    /// count of changes (`aim`), if the change puts bytes and its blocks with those of the last point and of the changes since
-    /// are more than the volume may use. Beside that it writes at most the blocks into which
-    /// it puts bytes. Where it fails, rows, records, count and epoch stay as they were.
+    /// Adds one change, and gives its number. It is durable with the next commit. Beside a commit before it, it writes at
+    /// most the blocks into which it puts bytes. Where it fails, rows, records, count and epoch stay as they were.
+    ///
+    /// A commit may come first where the change puts bytes, and its blocks with those of the last point and of the changes
+    /// since are more than the volume may use. Where the disk wants no commit (`Disk::aimed`), it comes where the change
+    /// needs more clusters than are free. Where the disk wants one, it comes once that many changes are made and at no other
+    /// time. A change that needs more clusters than are free at another time is OutOfMemory; on a disk that has three times
+    /// the clusters that the volume may use none does.
     pub fn apply(&mut self, change: &Change) -> Result<Usn, CallError>
         requires fits { Fits change.now self.old.known.table.rows }
         requires next { IsNextId change.now self.old.known.table.next }

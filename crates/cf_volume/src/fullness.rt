@@ -1,11 +1,12 @@
 //! Whether a change is refused for want of clusters, and whether it waits for a commit.
 
-ghost use Rattle.std.specs.Prelude.{◌≡◌, ◌≤◌, ◌<◌, ◌+◌, ◌^◌, nat_lt, IsFalse, IsTrue};
+ghost use Rattle.std.specs.Prelude.{◌≡◌, ◌≤◌, ◌<◌, ◌+◌, ◌^◌, ℕ, true, false, Some, nat_lt, IfOk};
 ghost use Rattle.cf_clusters.specs.Roles.{how_many, is_free, is_now};
 ghost use Rattle.cf_volume.specs.Steady.{known_of};
-ghost use Rattle.cf_volume.specs.Waits.{MayWait, passes};
+ghost use Rattle.cf_volume.specs.Waits.{IsLight, MayWait, passes};
 
 use crate::parts::Parts;
+use cf_base::OutOfMemory;
 use cf_disk::Disk;
 
 /// Whether the state would hold more clusters than the volume may use with so many more, and there are more.
@@ -16,21 +17,41 @@ pub(crate) fn is_full(parts: &Parts, more: u128) -> bool
     more > 0 && parts.held.used() as u128 + more > parts.limit as u128
 }
 
-// Whether the clusters of the last point, and what changes put since and this one would put, pass the limit.
+// Whether blocks are put which, with the clusters of the last point and what changes put since, pass the limit.
 fn is_heavy(parts: &Parts, blocks: usize) -> bool
-    ensures { result ≡ nat_lt parts.now.limit (parts.now.used_then + parts.now.put_since + blocks) }
+    ensures heavy { result ≡ true → MayWait (known_of parts.now) blocks }
+    ensures light { result ≡ false → IsLight (known_of parts.now) blocks }
 {
-    parts.used_then as u128 + parts.put_since as u128 + blocks as u128 > parts.limit as u128
+    let put = parts.put_since as u128 + blocks as u128;
+    blocks > 0 && parts.used_then as u128 + put > parts.limit as u128
 }
 
-/// Whether a change that puts so many blocks waits for a commit: where too few clusters are free, and where the disk wants a
-/// commit here and one may come.
-pub(crate) fn waits_for_room<D: Disk>(disk: &D, parts: &Parts, blocks: usize) -> bool
-    ensures waits { IsTrue result → MayWait (known_of parts.now) blocks }
-    ensures free { IsFalse result → blocks ≤ how_many is_free parts.now.held }
+/// Whether a change that puts so many blocks waits for a commit. Where the disk wants a commit after no count of changes, a
+/// change waits that has too few free clusters. Where the disk wants one, a change waits at that count alone, and only if
+/// it puts blocks which, with those of the last point and of the changes since, are more than the volume may use.
+///
+/// OutOfMemory where the disk wants a commit, the change does not wait and too few clusters are free. On a disk that has
+/// three times the clusters that the volume may use this does not come: the last point, the state now and the change have
+/// room beside each other there.
+pub(crate) fn waits_for_room<D: Disk>(
+    disk: &D,
+    parts: &Parts,
+    blocks: usize,
+) -> Result<bool, OutOfMemory>
+    ensures waits { IfOk result (λ w. w ≡ true → MayWait (known_of parts.now) blocks) }
+    ensures wanted { IfOk result (λ w. w ≡ true → (n : ℕ) → (D.state disk.now).settings.aim ≡ Some n → n ≡ parts.now.contents.count) }
+    ensures free { IfOk result (λ w. w ≡ false → blocks ≤ how_many is_free parts.now.held) }
+    ensures light { IfOk result (λ w. w ≡ false → (D.state disk.now).settings.aim ≡ Some parts.now.contents.count → IsLight (known_of parts.now) blocks) }
 {
-    if (parts.held.free() as usize) < blocks {
-        return true;
+    let lacks = (parts.held.free() as usize) < blocks;
+    let Some(count) = disk.aimed() else {
+        return Ok(lacks);
+    };
+    if count == parts.contents.count && is_heavy(parts, blocks) {
+        return Ok(true);
     }
-    blocks > 0 && is_heavy(parts, blocks) && disk.is_aimed(parts.contents.count)
+    if lacks {
+        return Err(OutOfMemory);
+    }
+    Ok(false)
 }

@@ -9,20 +9,21 @@ ghost use Rattle.cf_model.specs.State.{Volume};
 ghost use Rattle.cf_volume_points.specs.At.{At};
 ghost use Rattle.cf_table.specs.Changing.{item_of_change, stays};
 ghost use Rattle.cf_table.specs.Tables.{row_of};
+ghost use Rattle.cf_volume.specs.Accepted.{FollowsAim};
 ghost use Rattle.cf_volume.specs.Calls.{IsCause, IsKept, IsPut};
 ghost use Rattle.cf_volume.specs.Steady.{Steady, known_of};
 ghost use Rattle.cf_volume.specs.Written.{NotesOnly};
 
-use crate::fullness::is_full;
+use crate::fullness::{is_full, waits_for_room};
 use crate::parts::Parts;
 use cf_base::{CallError, Change, Code, Usn};
 use cf_disk::Disk;
 
 // How many blocks so many bytes touch from the start of a file on.
 fn block_count(bytes: u128) -> u128
-    requires { bytes < 2 ^ 80 }
+    requires { bytes < 2 ^ 65 }
     ensures counted { result ≡ length (blocks_of 0 bytes) }
-    ensures small { result < 2 ^ 80 }
+    ensures small { result < 2 ^ 54 }
 {
     bytes.div_ceil(4096)
 }
@@ -31,7 +32,7 @@ fn block_count(bytes: u128) -> u128
 pub(crate) fn clusters_asked(change: &Change) -> u128
     requires { stays change.now ≡ true }
     ensures asked { result ≡ length (puts_in change.now []) }
-    ensures small { result < 2 ^ 80 }
+    ensures small { result < 2 ^ 54 }
 {
     match change {
         Change::Write { at, bytes, .. } => {
@@ -42,7 +43,8 @@ pub(crate) fn clusters_asked(change: &Change) -> u128
     }
 }
 
-/// Puts a change of an item that is not there, and gives its number. It is refused as one of an empty file is.
+/// Puts a change of an item that is not there, and gives its number. It is refused and waits as one of an empty file does.
+/// None where it waits for a commit; then nothing is done.
 pub(crate) fn put_absent<D: Disk>(
     disk: &D,
     parts: &mut Parts,
@@ -54,6 +56,7 @@ pub(crate) fn put_absent<D: Disk>(
     requires place { parts.old.contents.last.place < MOST_NUMBER }
     requires count { parts.old.contents.count < 18446744073709551615 }
     ensures put { (v : Volume) → At (D.state disk.now) (known_of parts.old) v → IsPut change.now v (D.state disk.now) (D.state disk.now) (known_of parts.new) result }
+    ensures aimed { (v : Volume) → At (D.state disk.now) (known_of parts.old) v → FollowsAim change.now v (D.state disk.now) result }
     ensures kept { IsKept disk.now (known_of parts.old) result disk.now (known_of parts.new) }
     ensures steady { OnOk result (Steady (size_of (D.state disk.now)) (known_of parts.new)) }
     ensures cause { IfErr result (λ e. IsCause e (D.state disk.now) (D.state disk.now)) }
@@ -61,13 +64,18 @@ pub(crate) fn put_absent<D: Disk>(
     ensures stays { OnErr result (parts.new.contents ≡ parts.old.contents) }
     ensures broken { parts.new.broken ≡ parts.old.broken }
 {
-    let _ = disk;
     let last = parts.contents.last;
-    if is_full(parts, clusters_asked(change)) {
+    let asked = clusters_asked(change);
+    if is_full(parts, asked) {
         return Err(CallError::No(Code::Full));
+    }
+    let blocks = asked as usize;
+    if waits_for_room(disk, parts, blocks)? {
+        return Ok(None);
     }
     parts.contents.last.place += 1;
     parts.contents.count += 1;
+    parts.put_since = parts.put_since.saturating_add(blocks as u64);
     Ok(Some(Usn {
         epoch: last.epoch,
         place: last.place + 1,

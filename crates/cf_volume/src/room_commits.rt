@@ -12,7 +12,7 @@ ghost use Rattle.cf_volume_points.specs.At.{Applied, At, StandsEither, StandsLas
 ghost use Rattle.cf_volume_points.specs.Keeping.{FitsBook, IsNextId};
 ghost use Rattle.cf_volume_points.specs.Sound.{IsKeepable};
 ghost use Rattle.cf_table.specs.Changing.{Fits, item_of_change, stays};
-ghost use Rattle.cf_volume.specs.Accepted.{IsDone, IsJudged, StaysSteady};
+ghost use Rattle.cf_volume.specs.Accepted.{FollowsAim, IsDone, IsJudged, StaysSteady};
 ghost use Rattle.cf_volume.specs.Calls.{Answers, IsCause, IsKept, Runs, StopsOnly};
 ghost use Rattle.cf_volume.specs.Steady.{Steady, known_of};
 ghost use Rattle.cf_volume.specs.Written.{NotesOnly, WritesAtMost, commit_bytes};
@@ -53,6 +53,7 @@ fn put_in_place<D: Disk>(
     requires place { parts.old.contents.last.place < MOST_NUMBER }
     requires count { parts.old.contents.count < 18446744073709551615 }
     ensures judged { (v : Volume) → At (D.state disk.old) (known_of parts.old) v → IsJudged change.now v result }
+    ensures aimed { (v : Volume) → At (D.state disk.old) (known_of parts.old) v → FollowsAim change.now v (D.state disk.old) result }
     ensures done { (v : Volume) → At (D.state disk.old) (known_of parts.old) v → IsDone change.now v (D.state disk.new) (known_of parts.new) result }
     ensures kept { IsKept disk.old (known_of parts.old) result disk.new (known_of parts.new) }
     ensures steady { OnOk result (Steady (size_of (D.state disk.new)) (known_of parts.new)) }
@@ -84,6 +85,7 @@ fn accept<D: Disk>(
     requires place { parts.old.contents.last.place < MOST_NUMBER }
     requires count { parts.old.contents.count < 18446744073709551615 }
     ensures judged { (v : Volume) → At (D.state disk.old) (known_of parts.old) v → IsJudged change.now v result }
+    ensures aimed { (v : Volume) → At (D.state disk.old) (known_of parts.old) v → FollowsAim change.now v (D.state disk.old) result }
     ensures done { (v : Volume) → At (D.state disk.old) (known_of parts.old) v → FitsBook change.now v.book → IsDone change.now v (D.state disk.new) (known_of parts.new) result }
     ensures kept { IsKept disk.old (known_of parts.old) result disk.new (known_of parts.new) }
     ensures steady { OnOk result (Steady (size_of (D.state disk.new)) (known_of parts.new)) }
@@ -133,7 +135,7 @@ fn accept_after_commit<D: Disk>(
 }
 
 /// Puts a change, for which a place is left, and gives its number. A commit comes first where the change waits for
-/// one. There is no memory for a change that cannot be counted.
+/// one. There is no memory for a change that cannot be counted, nor where it may not wait and too few clusters are free.
 pub(crate) fn accept_with_room<D: Disk>(
     disk: &mut D,
     parts: &mut Parts,

@@ -52,15 +52,6 @@ impl<D: Disk> Volume<D> {
         self.disk.arm(calls);
     }
 
-    /// Hands the number to the disk's `aim`, and changes nothing else.
-    pub fn aim(&mut self, changes: u64)
-        ensures same { IsUnchanged (D.state self.old.disk) (D.state self.new.disk) }
-        ensures armed { (D.state self.new.disk).armed ≡ (D.state self.old.disk).armed }
-        ensures known { self.new.known ≡ self.old.known }
-    {
-        self.disk.aim(changes);
-    }
-
     /// The row of an item.
     pub fn row(&self, id: ItemId) -> Option<&Row>
         ensures { option_copied result ≡ row_of self.now.known.table.rows id }

@@ -136,4 +136,5 @@ module _ (s : State) (p : Parts) (epoch n : ℕ) (log : List (Usn × Change)) (b
             let now = used_now (cluster_on s.seen) b p.contents.rows.rows (items_of log) p.held rows owns in
             omega (arith, sums, dropped, now);
         load = let now = used_now (cluster_on s.seen) b p.contents.rows.rows (items_of log) p.held rows owns in omega (arith, now);
+        exact = λ small. let now = used_now (cluster_on s.seen) b p.contents.rows.rows (items_of log) p.held rows owns in omega (arith, now);
       }

@@ -72,6 +72,7 @@ module _ (s : State) (k : Known) (v : Volume) (b : Book) (clock : ℕ) (records 
       fits = fits;
       used = at.now.used;
       load = at.now.load;
+      exact = at.now.exact;
     };
   }
 
@@ -159,6 +160,7 @@ module _ (s : State) (k : Known) (v : Volume) (b : Book) (id : ItemId) (r p : Ro
       fits = fits;
       used = at.now.used;
       load = at.now.load;
+      exact = at.now.exact;
     };
   }
 

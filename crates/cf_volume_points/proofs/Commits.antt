@@ -265,6 +265,10 @@ module _ (old new : State) (j : Journal) (k : Known) (v : Volume) (p : Point) (p
           let used = used_now (cluster_on old.seen) v.book k.table.rows v.items k.uses holds.rows holds.owns in
           let now = now_committed k.uses in
           omega (arith, used, now);
+      exact = λ small.
+          let used = used_now (cluster_on old.seen) v.book k.table.rows v.items k.uses holds.rows holds.owns in
+          let now = now_committed k.uses in
+          omega (arith, used, now);
     };
   }
     where

@@ -160,5 +160,6 @@ module _ (s : State) (k : Known) (v : Volume) (id : ItemId) (uses : List Use) (r
       fits = fits;
       used = omega (arith, at.now.used, drops.long, drops.free);
       load = omega (arith, at.now.load);
+      exact = λ small. omega (arith, at.now.exact small);
     };
   }

@@ -24,7 +24,7 @@ use Rattle.cf_model.specs.State.{Volume}
 use Rattle.cf_model.specs.Words.{part}
 use Rattle.cf_volume_points.specs.At.{At, Kept}
 use Rattle.cf_volume_points.specs.Clusters.{Owns, clusters_in_row, clusters_in_rows, times}
-use Rattle.cf_volume_points.specs.Holding.{FitsTable, HoldRows, HoldsRow}
+use Rattle.cf_volume_points.specs.Holding.{CountsMore, FitsTable, HoldRows, HoldsRow}
 use Rattle.cf_volume_points.specs.Known.{Known, row_then}
 use Rattle.cf_volume_points.specs.Staging.{AreBlocks, DropsGone, Moves}
 use Rattle.cf_volume_points.specs.Standing.{IsBookOf, cluster_on}
@@ -79,10 +79,10 @@ row_frame old new b r i same h = record {
 }
 
 -- the row of an item, changed, and its extents as staged and dropped
-module _ (s t : State) (k : Known) (v : Volume) (c : Change) (r p : Row) (mid uses : List Use) (puts : List ℕ) (es : List (ℕ × ℕ)) (then' : List Row)
+module _ (s t : State) (k : Known) (v : Volume) (c : Change) (r p : Row) (mid uses : List Use) (puts : List ℕ) (since : ℕ) (es : List (ℕ × ℕ)) (then' : List Row)
     (fair : Fair s) (at : At s k v) (rises : RisesFrom 0 k.table.rows) (rising : IsRising r.extents) (kind : stays c ≡ true) (found : row_of k.table.rows (item_of_change c) ≡ Some r)
     (means : (i : Item) → Means r i → Means p (item_effect c (pin_for c k.table.rows) (next_number v) i)) (id_is : p.id ≡ r.id) (anchor_is : p.anchor ≡ r.anchor) (last_is : p.last ≡ r.last) (runs : IsRuns p.here)
-    (puts_are : (i : Item) → Means r i → puts ≡ puts_in c i.held) (moves : Moves (length puts) s t k.uses mid) (leaves : Leaves s t (KeepsWhere IsCommitted k.uses s))
+    (puts_are : (i : Item) → Means r i → puts ≡ puts_in c i.held) (counts : CountsMore k.put_since (length puts) since) (moves : Moves (length puts) s t k.uses mid) (leaves : Leaves s t (KeepsWhere IsCommitted k.uses s))
     (staged : (rest : ℕ → ℕ) (was : ℕ → List ℕ) (i : Item) → Means r i → AreBlocks rest was i.held (item_effect c (pin_for c k.table.rows) (next_number v) i).held [] k.uses r.extents (cluster_on s.seen)
     → AreBlocks rest was i.held (item_effect c (pin_for c k.table.rows) (next_number v) i).held puts mid es (cluster_on t.seen))
     (drops : DropsGone p.here mid uses es p.extents) (fits : FitsTable (effect v.items c (next_number v)) (book_after c v.book))
@@ -94,7 +94,7 @@ module _ (s t : State) (k : Known) (v : Volume) (c : Change) (r p : Row) (mid us
   change_item i = item_effect c (pin_for c k.table.rows) (next_number v) i
 
   abbrev pub changed_known : Known
-  changed_known = record k { uses = uses; table = record { rows = with_row p k.table.rows; next = k.table.next }; place = k.place + 1; count = k.count + 1; rows_then = then' }
+  changed_known = record k { uses = uses; table = record { rows = with_row p k.table.rows; next = k.table.next }; place = k.place + 1; count = k.count + 1; rows_then = then'; put_since = since }
 
   row_id : (q : Row) (rows : List Row) → row_of rows key ≡ Some q → q.id.0 ≡ key.0
   row_id q [] e = absurd (none-some q e)
@@ -185,7 +185,8 @@ module _ (s t : State) (k : Known) (v : Volume) (c : Change) (r p : Row) (mid us
       within = omega (arith, at.now.within, new_clusters);
       fits = fits;
       used = omega (arith, at.now.used, new_clusters, moves.free, drops.free, put_count);
-      load = omega (arith, at.now.load);
+      load = omega (arith, at.now.load, counts.most, put_count);
+      exact = λ small. let more = counts.exact small in omega (arith, more, at.now.exact (omega (arith, more, small)), put_count);
     };
   }
     where

@@ -20,4 +20,3 @@ pub mod Readings
 pub mod RowRoom
 pub mod Found
 pub mod BookChanges
-pub mod Loads

@@ -23,7 +23,7 @@ use Rattle.cf_model.specs.State.{Volume}
 use Rattle.cf_model.specs.Words.{counting}
 use Rattle.cf_volume_points.specs.At.{At, Kept}
 use Rattle.cf_volume_points.specs.Clusters.{clusters_in_row, clusters_in_rows, once, times}
-use Rattle.cf_volume_points.specs.Holding.{FitsTable, HoldRows, HoldsRow}
+use Rattle.cf_volume_points.specs.Holding.{CountsMore, FitsTable, HoldRows, HoldsRow}
 use Rattle.cf_volume_points.specs.Known.{Known, row_then}
 use Rattle.cf_volume_points.specs.Staging.{Moves}
 use Rattle.cf_volume_points.specs.Standing.{IsBookOf, cluster_on}
@@ -104,14 +104,14 @@ module _ (s : State) (k : Known) (v : Volume) (p : Row) (i : Item) (at : At s k 
   }
 
 -- the volume with one more change, which makes an item whose row has clusters of its own
-module _ (s t : State) (k : Known) (v : Volume) (c : Change) (p : Row) (i : Item) (n : ℕ) (uses : List Use) (next : ItemId) (fair : Fair s) (at : At s k v)
+module _ (s t : State) (k : Known) (v : Volume) (c : Change) (p : Row) (i : Item) (n since : ℕ) (uses : List Use) (next : ItemId) (fair : Fair s) (at : At s k v)
     (above : All (λ r. r.id.0 < p.id.0) k.table.rows) (row : HoldsRow (cluster_on t.seen) v.book p i) (items_are : effect v.items c (next_number v) ≡ v.items ++ i ∷ []) (book_is : book_after c v.book ≡ v.book)
-    (moves : Moves n s t k.uses uses) (leaves : Leaves s t (KeepsWhere IsCommitted k.uses s)) (puts : n ≤ length (puts_into v.items c))
+    (moves : Moves n s t k.uses uses) (leaves : Leaves s t (KeepsWhere IsCommitted k.uses s)) (puts : length (puts_into v.items c) ≡ n) (counts : CountsMore k.put_since n since)
     (owned : (j : ℕ) → times j (clusters_in_rows k.table.rows) + times j (clusters_in_row p) ≡ once uses j) (same : (j : ℕ) → 1 ≤ times j (clusters_in_rows k.table.rows) → cluster_on t.seen j ≡ cluster_on s.seen j)
     (next_is : next ≡ (put_change c v).next_item) (fits : FitsTable (put_change c v).items (put_change c v).book)
     (known : (id : ItemId) → row_then id k.rows_then k.next_then (row_of (with_row p k.table.rows) id) ≡ row_then id k.rows_then k.next_then (row_of k.table.rows id)) where
   abbrev pub added_known : Known
-  added_known = record k { uses = uses; table = record { rows = with_row p k.table.rows; next = next }; place = k.place + 1; count = k.count + 1 }
+  added_known = record k { uses = uses; table = record { rows = with_row p k.table.rows; next = next }; place = k.place + 1; count = k.count + 1; put_since = since }
 
   rows_are : with_row p k.table.rows ≡ k.table.rows ++ p ∷ []
   rows_are = with_last p k.table.rows above
@@ -152,7 +152,8 @@ module _ (s t : State) (k : Known) (v : Volume) (c : Change) (p : Row) (i : Item
       within = omega (arith, at.now.within, moves.long);
       fits = fits;
       used = omega (arith, at.now.used, moves.long, moves.free, puts);
-      load = omega (arith, at.now.load);
+      load = omega (arith, at.now.load, counts.most, puts);
+      exact = λ small. let more = counts.exact small in omega (arith, more, at.now.exact (omega (arith, more, small)), puts);
     };
   }
     where

@@ -50,6 +50,7 @@ module _ (s t : State) (k : Known) (v : Volume) (fair : Fair s) (at : At s k v) 
       fits = at.now.fits;
       used = at.now.used;
       load = at.now.load;
+      exact = at.now.exact;
     };
   }
 

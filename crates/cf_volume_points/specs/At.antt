@@ -1,5 +1,5 @@
 -- A disk, and what a program knows of it, at a volume of the definitions.
-use Rattle.std.specs.Prelude.{◌≡◌, ◌≤◌, ◌⊎◌, [], ◌∷◌, ℕ, true, List, None, option_map, find, length, take, ◌==◌}
+use Rattle.std.specs.Prelude.{◌≡◌, ◌≤◌, ◌⊎◌, [], ◌∷◌, ℕ, true, false, List, None, Some, option_map, find, length, take, ◌==◌}
 use Rattle.cf_base.specs.declared.changes.Change.{Change}
 use Rattle.cf_base.specs.declared.ids.ItemId.{ItemId}
 use Rattle.cf_base.specs.declared.ids.Usn.{Usn}
@@ -74,6 +74,17 @@ StandsNow v disk = Standing v.epoch disk v.log v.book
 abbrev pub StandsEither : Volume → List ℕ → Type 0
 StandsEither v disk = StandsLast v disk ⊎ StandsNow v disk
 
--- one more change, and a commit for room before it only where it may be needed
+-- One more change, and no commit for room. Where the disk wants one here it is not needed.
+pub record PutAtOnce (s : State) (k : Known) (c : Change) (v : Volume) : Type 0 where
+  pub at : At s k (put_change c v)
+  pub unwanted : s.settings.aim ≡ Some (length v.log) → may_need_room c v ≡ false
+
+-- One more change, and a commit for room before it, which may be needed. A disk that wants one elsewhere has none here.
+pub record PutAfterRoom (s : State) (k : Known) (c : Change) (v : Volume) : Type 0 where
+  pub needed : may_need_room c v ≡ true
+  pub wanted : (n : ℕ) → s.settings.aim ≡ Some n → n ≡ length v.log
+  pub at : At s k (put_change c (with_room_point v))
+
+-- one more change, and a commit for room before it where it may be needed and the disk wants it
 abbrev pub Applied : State → Known → Change → Volume → Type 0
-Applied s k c v = At s k (put_change c v) ⊎ ((may_need_room c v ≡ true) × At s k (put_change c (with_room_point v)))
+Applied s k c v = PutAtOnce s k c v ⊎ PutAfterRoom s k c v

@@ -1,5 +1,5 @@
 -- The state now: rows that mean the items, whose clusters hold the bytes.
-use Rattle.std.specs.Prelude.{◌≡◌, ◌≤◌, ◌+◌, ℕ, List, [], ◌∷◌, length, map}
+use Rattle.std.specs.Prelude.{◌≡◌, ◌≤◌, ◌<◌, ◌+◌, ℕ, List, [], ◌∷◌, length, map}
 use Rattle.cf_base.specs.declared.limits.TheConstants.{MOST_ITEMS}
 use Rattle.cf_clusters.specs.Roles.{how_many, is_free}
 use Rattle.cf_disk.specs.Disk.{State}
@@ -37,9 +37,14 @@ pub record FitsTable (items : List Item) (b : Book) : Type 0 where
   pub few : length items ≤ MOST_ITEMS
   pub short : image_len items b ≤ most_image
 
+-- A count to which more was added. It stays where it is once it has come to its greatest.
+pub record CountsMore (old more new : ℕ) : Type 0 where
+  pub most : new ≤ old + more
+  pub exact : new < 18446744073709551615 → old + more ≤ new
+
 -- What is known is the volume now, and the clusters of the rows are those that the state holds. The used clusters are
 -- those of the last point, and those that changes since took. The volume may use fewer clusters than there are. What is
--- counted of the last point and of changes since is at most what the volume has.
+-- counted of the last point and of changes since is what the volume has, until the count has come to its greatest.
 pub record Holds (s : State) (k : Known) (v : Volume) : Type 0 where
   pub rows : HoldRows (cluster_on s.seen) v.book k.table.rows v.items
   pub owns : Owns k.uses (clusters_in_rows k.table.rows)
@@ -56,3 +61,4 @@ pub record Holds (s : State) (k : Known) (v : Volume) : Type 0 where
   pub fits : FitsTable v.items v.book
   pub used : length k.uses ≤ how_many is_free k.uses + blocks_used v.items_then + v.put_since
   pub load : k.used_then + k.put_since ≤ blocks_used v.items_then + v.put_since
+  pub exact : k.put_since < 18446744073709551615 → blocks_used v.items_then + v.put_since ≤ k.used_then + k.put_since

@@ -20,6 +20,7 @@ ghost use Rattle.cf_table.specs.Changing.{Fits, item_of_change};
 ghost use Rattle.cf_table.specs.Means.{IsFresh};
 ghost use Rattle.cf_table.specs.Tables.{row_of};
 ghost use Rattle.cf_table.specs.declared.rows.Row.{Row};
+ghost use Rattle.cf_volume.specs.Accepted.{FollowsAim};
 ghost use Rattle.cf_volume.specs.Calls.{IsCause, IsKept, IsPut, Runs};
 ghost use Rattle.cf_volume.specs.NewRows.{IsCopied, IsCopy};
 ghost use Rattle.cf_volume.specs.Steady.{Steady, known_of};
@@ -106,6 +107,7 @@ fn put_judged<D: Disk>(
     requires place { parts.old.contents.last.place < MOST_NUMBER }
     requires count { parts.old.contents.count < 18446744073709551615 }
     ensures put { (v : Volume) (c : Change) (i : Item) → At (D.state disk.old) (known_of parts.old) v → IsCopied c v row i from → IsPut c v (D.state disk.old) (D.state disk.new) (known_of parts.new) result }
+    ensures aimed { (v : Volume) (c : Change) (i : Item) → At (D.state disk.old) (known_of parts.old) v → IsCopied c v row i from → FollowsAim c v (D.state disk.old) result }
     ensures kept { IsKept disk.old (known_of parts.old) result disk.new (known_of parts.new) }
     ensures steady { OnOk result (Steady (size_of (D.state disk.new)) (known_of parts.new)) }
     ensures crash { Leaves (D.state disk.old) (D.state disk.new) (KeepsWhere IsCommitted parts.old.held (D.state disk.old)) }
@@ -121,7 +123,7 @@ fn put_judged<D: Disk>(
     if let Some(code) = refusal_of_new(disk, parts, &row, blocks) {
         return Err(CallError::No(code));
     }
-    if waits_for_room(disk, parts, blocks) {
+    if waits_for_room(disk, parts, blocks)? {
         return Ok(None);
     }
     match put_copied(disk, parts, from, row, blocks) {
@@ -144,6 +146,7 @@ pub(crate) fn put_copy<D: Disk>(
     requires place { parts.old.contents.last.place < MOST_NUMBER }
     requires count { parts.old.contents.count < 18446744073709551615 }
     ensures put { (v : Volume) → At (D.state disk.old) (known_of parts.old) v → IsPut change.now v (D.state disk.old) (D.state disk.new) (known_of parts.new) result }
+    ensures aimed { (v : Volume) → At (D.state disk.old) (known_of parts.old) v → FollowsAim change.now v (D.state disk.old) result }
     ensures kept { IsKept disk.old (known_of parts.old) result disk.new (known_of parts.new) }
     ensures steady { OnOk result (Steady (size_of (D.state disk.new)) (known_of parts.new)) }
     ensures crash { Leaves (D.state disk.old) (D.state disk.new) (KeepsWhere IsCommitted parts.old.held (D.state disk.old)) }

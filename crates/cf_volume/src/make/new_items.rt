@@ -15,6 +15,7 @@ ghost use Rattle.cf_volume_points.specs.Keeping.{IsNextId};
 ghost use Rattle.cf_table.specs.Applied.{IsSpellable};
 ghost use Rattle.cf_table.specs.Changing.{Fits, item_of_change};
 ghost use Rattle.cf_table.specs.Means.{IsFresh};
+ghost use Rattle.cf_volume.specs.Accepted.{FollowsAim};
 ghost use Rattle.cf_volume.specs.Calls.{IsCause, IsFullness, IsKept, IsPut};
 ghost use Rattle.cf_volume.specs.NewRows.{Arrives, IsMade, IsMake, TestsRow};
 ghost use Rattle.cf_volume.specs.Steady.{Steady, known_of};
@@ -80,6 +81,7 @@ fn put_new<D: Disk>(disk: &D, parts: &mut Parts, row: Row) -> Result<Option<Usn>
     requires place { parts.old.contents.last.place < MOST_NUMBER }
     requires count { parts.old.contents.count < 18446744073709551615 }
     ensures put { (v : Volume) (c : Change) (i : Item) (n : ℕ) → At (D.state disk.now) (known_of parts.old) v → IsMade c v row i n → IsPut c v (D.state disk.now) (D.state disk.now) (known_of parts.new) result }
+    ensures aimed { (v : Volume) (c : Change) → puts_into v.items c ≡ [] → FollowsAim c v (D.state disk.now) result }
     ensures kept { IsKept disk.now (known_of parts.old) result disk.now (known_of parts.new) }
     ensures cause { IfErr result (λ e. IsCause e (D.state disk.now) (D.state disk.now)) }
     ensures steady { OnOk result (Steady (size_of (D.state disk.now)) (known_of parts.new)) }
@@ -108,6 +110,7 @@ pub(crate) fn put_make<D: Disk>(
     requires place { parts.old.contents.last.place < MOST_NUMBER }
     requires count { parts.old.contents.count < 18446744073709551615 }
     ensures put { (v : Volume) → At (D.state disk.now) (known_of parts.old) v → IsPut change.now v (D.state disk.now) (D.state disk.now) (known_of parts.new) result }
+    ensures aimed { (v : Volume) → FollowsAim change.now v (D.state disk.now) result }
     ensures kept { IsKept disk.now (known_of parts.old) result disk.now (known_of parts.new) }
     ensures cause { IfErr result (λ e. IsCause e (D.state disk.now) (D.state disk.now)) }
     ensures steady { OnOk result (Steady (size_of (D.state disk.now)) (known_of parts.new)) }

@@ -10,6 +10,7 @@ ghost use Rattle.cf_model.specs.State.{Volume};
 ghost use Rattle.cf_volume_points.specs.At.{At};
 ghost use Rattle.cf_volume_points.specs.Keeping.{FitsBook};
 ghost use Rattle.cf_table.specs.Changing.{item_of_change};
+ghost use Rattle.cf_volume.specs.Accepted.{FollowsAim};
 ghost use Rattle.cf_volume.specs.Calls.{IsKept, IsPut};
 ghost use Rattle.cf_volume.specs.Keys.{IsRemove, seen_key};
 ghost use Rattle.cf_volume.specs.Steady.{Steady, known_of};
@@ -47,6 +48,7 @@ pub(crate) fn put_remove<D: Disk>(
     requires place { parts.old.contents.last.place < MOST_NUMBER }
     requires count { parts.old.contents.count < 18446744073709551615 }
     ensures put { (v : Volume) → At (D.state disk.now) (known_of parts.old) v → FitsBook change.now v.book → IsPut change.now v (D.state disk.now) (D.state disk.now) (known_of parts.new) result }
+    ensures aimed { (v : Volume) → FollowsAim change.now v (D.state disk.now) result }
     ensures why { (v : Volume) → At (D.state disk.now) (known_of parts.old) v → why_no_room (change.now ∷ []) v ≡ None }
     ensures number { IfOk result (λ n. n ≡ Some (usn_after parts.old.contents.last.epoch parts.old.contents.last.place)) }
     ensures only { IfErr result (λ e. e ≡ fail.OutOfMemory) }

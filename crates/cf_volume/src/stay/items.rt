@@ -10,6 +10,7 @@ ghost use Rattle.cf_model.specs.State.{Volume};
 ghost use Rattle.cf_volume_points.specs.At.{At};
 ghost use Rattle.cf_table.specs.Changing.{Fits, item_of_change, stays};
 ghost use Rattle.cf_table.specs.Tables.{row_of};
+ghost use Rattle.cf_volume.specs.Accepted.{FollowsAim};
 ghost use Rattle.cf_volume.specs.Calls.{IsCause, IsKept, IsPut, Runs};
 ghost use Rattle.cf_volume.specs.Steady.{Steady, known_of};
 ghost use Rattle.cf_volume.specs.Written.{NotesOnly, WritesAtMost};
@@ -36,6 +37,7 @@ pub(crate) fn put_stay<D: Disk>(
     requires place { parts.old.contents.last.place < MOST_NUMBER }
     requires count { parts.old.contents.count < 18446744073709551615 }
     ensures put { (v : Volume) → At (D.state disk.old) (known_of parts.old) v → IsPut change.now v (D.state disk.old) (D.state disk.new) (known_of parts.new) result }
+    ensures aimed { (v : Volume) → At (D.state disk.old) (known_of parts.old) v → FollowsAim change.now v (D.state disk.old) result }
     ensures kept { IsKept disk.old (known_of parts.old) result disk.new (known_of parts.new) }
     ensures steady { OnOk result (Steady (size_of (D.state disk.new)) (known_of parts.new)) }
     ensures crash { Leaves (D.state disk.old) (D.state disk.new) (KeepsWhere IsCommitted parts.old.held (D.state disk.old)) }
@@ -56,7 +58,7 @@ pub(crate) fn put_stay<D: Disk>(
     if let Some(code) = refusal_of(disk, parts, change, &planned) {
         return Err(CallError::No(code));
     }
-    if waits_for_room(disk, parts, planned.blocks.len()) {
+    if waits_for_room(disk, parts, planned.blocks.len())? {
         return Ok(None);
     }
     match put_planned(disk, parts, planned, change) {

@@ -52,8 +52,8 @@ impl<D: Disk> Disk for Counted<D> {
         self.disk.aim(changes);
     }
 
-    fn is_aimed(&self, changes: u64) -> bool {
-        self.disk.is_aimed(changes)
+    fn aimed(&self) -> Option<u64> {
+        self.disk.aimed()
     }
 
     ghost counts_now = { λ d. D.counts_now d.disk };

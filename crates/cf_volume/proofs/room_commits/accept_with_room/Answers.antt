@@ -1,11 +1,11 @@
-use Rattle.std.proofs.Common.{◌+◌, sym, ◌∙◌, ap, subst, arith}
+use Rattle.std.proofs.Common.{◌+◌, inl, inr, sym, ◌∙◌, ap, subst, arith}
 use Rattle.std.proofs.lemmas.Bool.{true≢false}
-use Rattle.cf_disk.specs.Disk.{Leaves}
+use Rattle.cf_disk.specs.Disk.{Leaves, Settings}
 use Rattle.cf_volume_points.proofs.Saves.{untouched, untouched_either}
 use Rattle.cf_volume_points.specs.At.{StandsEither}
 use Rattle.cf_volume_points.specs.Known.{Known}
 use Rattle.cf_volume.proofs.Stopped.{handed_on, on_err}
-use Rattle.cf_volume.proofs.WithRoom.{judged_none, kept_none, same_at}
+use Rattle.cf_volume.proofs.WithRoom.{done_some, followed_none, followed_some, judged_none, kept_none, same_at}
 use Rattle.cf_volume.specs.Calls.{StopsOnly}
 use Rattle.cf_volume.specs.Steady.{known_of}
 use Rattle.cf_model.specs.Costs.{most_of_change}
@@ -104,3 +104,25 @@ pub returns-in_err-accept_after_commit-clause-stays : goal.returns-in_err-accept
 returns-in_err-accept_after_commit-clause-stays g c =
     let same = kept_none c.args.disk.now c.accept.new.disk (known_of c.args.parts.now) (known_of c.accept.new.parts) c.in_ok-accept.field-0 (sym c.is_some.ensures ∙ c.if-is_some.false) c.in_ok-accept.ensures.kept in
     on_err c.from_residual-in_err-accept_after_commit.result (c.in_err-accept_after_commit.ensures.stays ∙ ap contents_in same.1)
+
+pub returns-then-is_some-clause-done : goal.returns-then-is_some-clause-done
+returns-then-is_some-clause-done g c = λ v at book keep.
+    let some = sym c.is_some.ensures ∙ c.if-is_some.true in
+    inl (record {
+      at = done_some c.args.change.now v (g.D.Disk.state c.accept.new.disk) (known_of c.accept.new.parts) c.in_ok-accept.field-0 some (c.in_ok-accept.ensures.done v at book);
+      unwanted = λ wanted.
+          followed_some c.args.change.now v (g.D.Disk.state c.args.disk.now) c.in_ok-accept.field-0 some (c.in_ok-accept.ensures.aimed v at)
+          (ap (λ (x : Settings). x.aim) (sym c.in_ok-accept.ensures.runs.settings) ∙ wanted);
+    })
+
+pub returns-clause-done : goal.returns-clause-done
+returns-clause-done g c = λ v at book keep.
+    let none = sym c.is_some.ensures ∙ c.if-is_some.false in
+    let same = kept_none c.args.disk.now c.accept.new.disk (known_of c.args.parts.now) (known_of c.accept.new.parts) c.in_ok-accept.field-0 none c.in_ok-accept.ensures.kept in
+    let waits = judged_none c.args.change.now v c.in_ok-accept.field-0 none (c.in_ok-accept.ensures.judged v at) in
+    let settings = c.in_ok-accept_after_commit.ensures.runs.settings ∙ c.in_ok-accept.ensures.runs.settings in
+    inr (record {
+      needed = waits.1;
+      wanted = λ n wanted. followed_none c.args.change.now v (g.D.Disk.state c.args.disk.now) c.in_ok-accept.field-0 none (c.in_ok-accept.ensures.aimed v at) n (ap (λ (x : Settings). x.aim) (sym settings) ∙ wanted);
+      at = c.in_ok-accept_after_commit.ensures.done v (same_at g.D.Disk.state c.args.disk.now c.accept.new.disk (known_of c.args.parts.now) (known_of c.accept.new.parts) v same at) (keep waits.1) book;
+    })

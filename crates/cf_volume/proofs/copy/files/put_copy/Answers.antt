@@ -10,6 +10,7 @@ use Rattle.cf_volume.specs.Calls.{IsPut}
 use Rattle.cf_volume.specs.Steady.{known_of}
 use Rattle.cf_model.specs.Costs.{most_of_change}
 use Rattle.cf_volume.specs.Written.{WritesAtMost}
+use Rattle.cf_volume.specs.Accepted.{FollowsAim}
 use Rattle.cf_volume.proofs.copy.files.put_copy.Goals as goal
 
 pub returns-clause-put : goal.returns-clause-put
@@ -27,3 +28,11 @@ returns-clause-written g c = λ v at.
     let copy = copy_arrives (g.D.Disk.state c.args.disk.now) (known_of c.args.parts.now) v c.in_ok-row-in-Copy.row source.0 c.in-Copy.item c.in-Copy.from c.in-Copy.parent c.in-Copy.name _ at refl source.1 (c.in_ok-row-in-Copy.ensures.means source.0 source.1) in
     subst (λ (x : Change). WritesAtMost (most_of_change v.items x) (g.D.Disk.state c.args.disk.now) (g.D.Disk.state c.put_judged.new.disk)) (sym c.in-Copy.is)
     (c.put_judged.ensures.written v (change.Copy c.in-Copy.item c.in-Copy.from c.in-Copy.parent c.in-Copy.name) copy.0 at copy.1)
+
+pub returns-clause-aimed : goal.returns-clause-aimed
+returns-clause-aimed g c = λ v at.
+    let fits = subst (λ (x : Change). Fits x c.args.parts.now.contents.rows.rows) c.in-Copy.is c.requires.fits in
+    let source = some_row (row_of c.args.parts.now.contents.rows.rows c.in-Copy.from) (source_there c.args.parts.now.contents.rows.rows c.in-Copy.from fits.2) in
+    let copy = copy_arrives (g.D.Disk.state c.args.disk.now) (known_of c.args.parts.now) v c.in_ok-row-in-Copy.row source.0 c.in-Copy.item c.in-Copy.from c.in-Copy.parent c.in-Copy.name _ at refl source.1 (c.in_ok-row-in-Copy.ensures.means source.0 source.1) in
+    subst (λ (x : Change). FollowsAim x v (g.D.Disk.state c.args.disk.now) c.put_judged.result) (sym c.in-Copy.is)
+    (c.put_judged.ensures.aimed v (change.Copy c.in-Copy.item c.in-Copy.from c.in-Copy.parent c.in-Copy.name) copy.0 at copy.1)

@@ -2,7 +2,7 @@ use Rattle.std.proofs.Common.{sym, ◌∙◌, inr}
 use Rattle.cf_model.specs.Numbers.{usn_after}
 use Rattle.cf_table.specs.Tables.{row_of}
 use Rattle.cf_volume.proofs.CopyPut.{copy_puts}
-use Rattle.cf_volume.proofs.Judged.{room_needed}
+use Rattle.cf_volume.proofs.Judged.{put_wanted, room_needed}
 use Rattle.cf_volume.proofs.Puts.{some_row}
 use Rattle.cf_volume.specs.Steady.{known_of}
 use Rattle.cf_volume.proofs.WrittenBytes.{puts_write}
@@ -14,12 +14,12 @@ returns-in-Some-clause-put g c = λ v change i at copy.
     let puts = copy_puts (g.D.Disk.state c.args.disk.now) (known_of c.args.parts.now) v change c.args.row source.0 i c.args.from at source.1 copy ∙ sym (c.block_count-blocks.ensures source.0 source.1) in
     inr (c.in-Some.ensures.why v change i at copy.arrives puts)
 
-pub returns-then-waits_for_room-clause-put : goal.returns-then-waits_for_room-clause-put
-returns-then-waits_for_room-clause-put g c = λ v change i at copy.
+pub returns-then-branch-clause-put : goal.returns-then-branch-clause-put
+returns-then-branch-clause-put g c = λ v change i at copy.
     let source = some_row (row_of c.args.parts.now.contents.rows.rows c.args.from) c.requires.there in
     let puts = copy_puts (g.D.Disk.state c.args.disk.now) (known_of c.args.parts.now) v change c.args.row source.0 i c.args.from at source.1 copy ∙ sym (c.block_count-blocks.ensures source.0 source.1) in (
       c.in_default.ensures.why v change i at copy.arrives puts,
-      room_needed (g.D.Disk.state c.args.disk.now) (known_of c.args.parts.now) v change c.block_count-blocks.result at puts (c.waits_for_room.ensures.waits c.if-waits_for_room.true),
+      room_needed (g.D.Disk.state c.args.disk.now) (known_of c.args.parts.now) v change c.block_count-blocks.result at puts (c.in_ok-waits_for_room.ensures.waits c.if-branch.true),
     )
 
 pub returns-in-Ok-clause-put : goal.returns-in-Ok-clause-put
@@ -42,3 +42,13 @@ returns-in-Err-clause-written g c = λ v change i at copy.
     let source = some_row (row_of c.args.parts.now.contents.rows.rows c.args.from) c.requires.there in
     puts_write (g.D.Disk.state c.args.disk.now) (g.D.Disk.state c.put_copied.new.disk) v change _
     (copy_puts (g.D.Disk.state c.args.disk.now) (known_of c.args.parts.now) v change c.args.row source.0 i c.args.from at source.1 copy) (c.in-Err.ensures.ran source.0 source.1)
+
+pub returns-then-branch-clause-aimed : goal.returns-then-branch-clause-aimed
+returns-then-branch-clause-aimed g c = λ v change i at copy. λ n wanted. c.in_ok-waits_for_room.ensures.wanted c.if-branch.true n wanted ∙ at.now.count
+
+pub returns-in-Ok-clause-aimed : goal.returns-in-Ok-clause-aimed
+returns-in-Ok-clause-aimed g c = λ v change i at copy.
+    let source = some_row (row_of c.args.parts.now.contents.rows.rows c.args.from) c.requires.there in
+    let puts = copy_puts (g.D.Disk.state c.args.disk.now) (known_of c.args.parts.now) v change c.args.row source.0 i c.args.from at source.1 copy ∙ sym (c.block_count-blocks.ensures source.0 source.1) in
+    put_wanted (g.D.Disk.state c.args.disk.now) (known_of c.args.parts.now) v change c.block_count-blocks.result at puts
+    (g.D.Disk.state c.args.disk.now).settings.aim (c.in_ok-waits_for_room.ensures.light c.if-branch.false)

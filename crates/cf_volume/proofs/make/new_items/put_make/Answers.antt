@@ -7,6 +7,7 @@ use Rattle.cf_model.specs.Items.{pin_of}
 use Rattle.cf_volume.proofs.Arrived.{make_arrives}
 use Rattle.cf_volume.specs.Calls.{IsPut}
 use Rattle.cf_volume.specs.Steady.{known_of}
+use Rattle.cf_volume.specs.Accepted.{FollowsAim}
 use Rattle.cf_volume.proofs.make.new_items.put_make.Goals as goal
 
 pub returns-clause-put : goal.returns-clause-put
@@ -15,3 +16,8 @@ returns-clause-put g c = λ v at.
     (c.put_new.ensures.put v (change.Make c.in-Make.item c.in-Make.parent c.in-Make.name c.in-Make.kind c.in-Make.size c.in-Make.identity)
     (made c.in-Make.item c.in-Make.parent c.in-Make.name c.in-Make.kind c.in-Make.size c.in-Make.identity (pin_of v.items c.in-Make.parent) (next_number v)) (size_made c.in-Make.kind c.in-Make.size) at
     (make_arrives (g.D.Disk.state c.args.disk.now) (known_of c.args.parts.now) v c.in_ok-row-in-Make.row c.in-Make.item c.in-Make.parent c.in-Make.name c.in-Make.kind c.in-Make.size c.in-Make.identity _ at refl c.in_ok-row-in-Make.ensures.means))
+
+pub returns-clause-aimed : goal.returns-clause-aimed
+returns-clause-aimed g c = λ v.
+    subst (λ (x : Change). FollowsAim x v (g.D.Disk.state c.args.disk.now) c.put_new.result) (sym c.in-Make.is)
+    (c.put_new.ensures.aimed v (change.Make c.in-Make.item c.in-Make.parent c.in-Make.name c.in-Make.kind c.in-Make.size c.in-Make.identity) refl)

@@ -1,5 +1,6 @@
 use Rattle.std.proofs.Common.{length, ap, ◌∙◌, inr}
 use Rattle.cf_model.specs.Numbers.{usn_after}
+use Rattle.cf_volume.proofs.Judged.{nothing_needed}
 use Rattle.cf_volume.proofs.make.new_items.put_new.Goals as goal
 
 pub returns-in-Some-clause-put : goal.returns-in-Some-clause-put
@@ -11,3 +12,6 @@ returns-clause-put g c = λ v change i n at made. (
   c.in_default.ensures.why v change i at made.arrives (ap length made.puts),
   c.in_ok-put_made.ensures.at v change i n at made (c.in_default.ensures.fits v change i at made.arrives),
 )
+
+pub returns-clause-aimed : goal.returns-clause-aimed
+returns-clause-aimed g c = λ v change puts wanted. nothing_needed change v (ap length puts)

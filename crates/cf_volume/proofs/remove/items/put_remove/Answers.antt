@@ -2,7 +2,7 @@ use Rattle.std.proofs.Common.{◌≡◌, ◌∙◌, ap, length, refl, subst, ℕ
 use Rattle.cf_disk.specs.Disk.{size_of}
 use Rattle.cf_model.specs.Formats.{without_record}
 use Rattle.cf_model.specs.Numbers.{usn_after}
-use Rattle.cf_volume.proofs.GoneCalls.{gone_call, gone_inside, gone_why}
+use Rattle.cf_volume.proofs.GoneCalls.{gone_call, gone_inside, gone_why, nothing_gone}
 use Rattle.cf_volume.proofs.GoneFits.{gone_steady}
 use Rattle.cf_volume.specs.Keys.{seen_key}
 use Rattle.cf_volume.specs.Notes.{Notes, NotesKey}
@@ -41,3 +41,6 @@ returns-clause-why g c = λ v at. gone_why (g.D.Disk.state c.args.disk.now) (kno
 pub returns-clause-noted : goal.returns-clause-noted
 returns-clause-noted g c = notes_one (item_of_change c.args.change.now) c.args.parts.now.then.next c.args.parts.now.contents.rows.rows c.args.parts.now.then.rows.rows c.note_row.new.before.rows
     (subst (λ (n : ItemId). Notes n c.args.parts.now.then.next c.args.parts.now.contents.rows.rows c.args.parts.now.then.rows.rows c.note_row.new.before.rows) c.item_of-id.ensures.of c.in_ok-note_row.ensures.ok)
+
+pub returns-clause-aimed : goal.returns-clause-aimed
+returns-clause-aimed g c = λ v wanted. nothing_gone c.args.change.now v c.requires.kind

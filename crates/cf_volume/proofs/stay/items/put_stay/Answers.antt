@@ -1,8 +1,8 @@
-use Rattle.std.proofs.Common.{◌≡◌, length, subst, arith}
+use Rattle.std.proofs.Common.{◌≡◌, ◌∙◌, length, subst, arith}
 use Rattle.cf_model.specs.Numbers.{usn_after}
-use Rattle.cf_table.specs.Changing.{item_of_change}
+use Rattle.cf_table.specs.Changing.{item_of_change, pin_for}
 use Rattle.cf_table.specs.Tables.{row_of}
-use Rattle.cf_volume.proofs.Judged.{needs_room}
+use Rattle.cf_volume.proofs.Judged.{needs_room, plan_puts, put_wanted}
 use Rattle.cf_volume.proofs.Planning.{fits_end}
 use Rattle.cf_volume.proofs.Puts.{found_fits, some_row}
 use Rattle.cf_volume.proofs.Stopped.{not_device}
@@ -19,12 +19,12 @@ put_planned-requires-clause-end g c =
     let row = some_row (row_of c.args.parts.now.contents.rows.rows (item_of_change c.args.change.now)) c.requires.there in
     fits_end c.args.change.now row.0 (found_fits c.args.change.now c.args.parts.now.contents.rows.rows row.0 c.requires.kind c.requires.fits row.1)
 
-pub returns-then-waits_for_room-clause-put : goal.returns-then-waits_for_room-clause-put
-returns-then-waits_for_room-clause-put g c = λ v at.
+pub returns-then-branch-clause-put : goal.returns-then-branch-clause-put
+returns-then-branch-clause-put g c = λ v at.
     let row = some_row (row_of c.args.parts.now.contents.rows.rows (item_of_change c.args.change.now)) c.requires.there in (
       c.in_default.ensures.why v at,
       needs_room (g.D.Disk.state c.args.disk.now) (known_of c.args.parts.now) v c.args.change.now row.0 c.in_ok-planned.planned.row c.in_ok-planned.planned.blocks.items at c.requires.kind row.1 (c.in_ok-planned.ensures row.0 row.1)
-          (subst (MayWait (known_of c.args.parts.now)) (let e : c.len.result ≡ length c.in_ok-planned.planned.blocks.items = omega (arith, c.len.ensures, c.in_ok-planned.planned.blocks.ok) in e) (c.waits_for_room.ensures.waits c.if-waits_for_room.true)),
+          (subst (MayWait (known_of c.args.parts.now)) (let e : c.len.result ≡ length c.in_ok-planned.planned.blocks.items = omega (arith, c.len.ensures, c.in_ok-planned.planned.blocks.ok) in e) (c.in_ok-waits_for_room.ensures.waits c.if-branch.true)),
     )
 
 pub returns-in-Ok-clause-put : goal.returns-in-Ok-clause-put
@@ -43,3 +43,14 @@ pub returns-in-Err-clause-written : goal.returns-in-Err-clause-written
 returns-in-Err-clause-written g c = λ v at.
     let row = some_row (row_of c.args.parts.now.contents.rows.rows (item_of_change c.args.change.now)) c.requires.there in
     plan_writes (g.D.Disk.state c.args.disk.now) (g.D.Disk.state c.put_planned.new.disk) (known_of c.args.parts.now) v c.args.change.now _ _ row.0 c.in_ok-planned.planned.row c.in_ok-planned.planned.blocks.items at c.requires.kind row.1 (c.in_ok-planned.ensures row.0 row.1) c.in-Err.ensures.ran
+
+pub returns-then-branch-clause-aimed : goal.returns-then-branch-clause-aimed
+returns-then-branch-clause-aimed g c = λ v at. λ n wanted. c.in_ok-waits_for_room.ensures.wanted c.if-branch.true n wanted ∙ at.now.count
+
+pub returns-in-Ok-clause-aimed : goal.returns-in-Ok-clause-aimed
+returns-in-Ok-clause-aimed g c = λ v at.
+    let row = some_row (row_of c.args.parts.now.contents.rows.rows (item_of_change c.args.change.now)) c.requires.there in
+    let puts = plan_puts (g.D.Disk.state c.args.disk.now) (known_of c.args.parts.now) v c.args.change.now (pin_for c.args.change.now c.args.parts.now.contents.rows.rows) (usn_after c.args.parts.now.contents.last.epoch c.args.parts.now.contents.last.place)
+    row.0 c.in_ok-planned.planned.row c.in_ok-planned.planned.blocks.items at c.requires.kind row.1 (c.in_ok-planned.ensures row.0 row.1) in
+    put_wanted (g.D.Disk.state c.args.disk.now) (known_of c.args.parts.now) v c.args.change.now c.len.result at (omega (arith, puts, c.len.ensures, c.in_ok-planned.planned.blocks.ok))
+    (g.D.Disk.state c.args.disk.now).settings.aim (c.in_ok-waits_for_room.ensures.light c.if-branch.false)

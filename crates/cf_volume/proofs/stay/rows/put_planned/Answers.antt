@@ -1,6 +1,7 @@
-use Rattle.std.proofs.Common.{subst, arith}
+use Rattle.std.proofs.Common.{length, subst, arith}
 use Rattle.cf_base.specs.declared.ids.ItemId.{ItemId}
 use Rattle.cf_table.specs.Changing.{item_of_change}
+use Rattle.cf_volume.proofs.Counting.{counted}
 use Rattle.cf_volume.proofs.PlannedPut.{planned_at, planned_inside, planned_steady}
 use Rattle.cf_volume.specs.Laid.{Carries}
 use Rattle.cf_volume.specs.Notes.{Notes}
@@ -14,7 +15,7 @@ returns-clause-at g c = λ v at fits.
     c.requires.steady c.image_len.ensures.rises c.image_len.ensures.kept c.requires.plan
     (subst (λ (n : ItemId). Carries c.args.change.now n c.args.planned.row c.args.planned.blocks.items (g.D.Disk.state c.args.disk.now) (g.D.Disk.state c.change_item.new.disk) c.args.parts.now.held c.change_item.new.held c.args.parts.now.contents.rows c.change_item.new.rows) c.item_of-id.ensures.of c.in_ok-change_item.ensures.carried)
     (subst (λ (n : ItemId). Notes n c.args.parts.now.then.next c.args.parts.now.contents.rows.rows c.args.parts.now.then.rows.rows c.note_row.new.before.rows) c.item_of-id.ensures.of c.in_ok-note_row.ensures.ok) c.saturating_add-parts.result
-    v (record { reads_one = g.met.D.Disk.reads_one c.args.disk.now; same_size = g.met.D.Disk.same_size c.args.disk.now }) at c.requires.kind fits (omega (arith, c.saturating_add-parts.ensures, c.len-blocks.ensures, c.args.planned.blocks.ok))
+    v (record { reads_one = g.met.D.Disk.reads_one c.args.disk.now; same_size = g.met.D.Disk.same_size c.args.disk.now }) at c.requires.kind fits (counted c.args.parts.now.put_since c.len-blocks.result (length c.args.planned.blocks.items) c.saturating_add-parts.result (omega (arith, c.len-blocks.ensures, c.args.planned.blocks.ok)) c.saturating_add-parts.ensures)
 
 pub returns-clause-steady : goal.returns-clause-steady
 returns-clause-steady g c =
