@@ -1,5 +1,6 @@
 -- A filter whose disk is armed stands for what it stood for.
 use Rattle.std.proofs.Common.{◌≡◌, inl, sym, ◌∙◌, ap, subst, arith}
+use Rattle.cf_filter_machine.proofs.Aims.{aims_on}
 use Rattle.cf_disk.specs.Disk.{IsUnchanged, Keeps, Leaves, State}
 use Rattle.cf_filter_machine.specs.Held.{Desk, Held}
 use Rattle.cf_filter_machine.specs.Sensing.{Stands, Stopped}
@@ -27,6 +28,7 @@ module _ {D : Type 0} (state : D → State) (x y : Held D) (same : IsUnchanged (
     good = h.good;
     kept = h.kept;
     points = h.points;
+    aimed = aims_on (state x.disk) (state y.disk) s.volume same.settings h.aimed;
   }
 
   pub armed_stopped : (s : Filter) → Stopped state x s → Stopped state y s

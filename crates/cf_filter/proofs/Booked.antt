@@ -1,6 +1,7 @@
 -- Anchors that are noted.
 use Rattle.std.proofs.Common.{◌≡◌, ◌==◌, Bool, true, false, cond, eqb, Option, Some, None, refl, sym, ◌∙◌, ap, subst}
 use Rattle.std.specs.Prelude.{MatchOption, Ok, Result}
+use Rattle.cf_filter_machine.proofs.Aims.{aims_book}
 use Rattle.cf_base.specs.declared.codes.CallError.{CallError}
 use Rattle.cf_base.specs.declared.ids.ItemId.{ItemId}
 use Rattle.cf_base.specs.declared.ids.Usn.{Usn}
@@ -92,6 +93,7 @@ anchored_done {D} state x y k e id i is some usable same at = subst (λ (z : Hel
           good = record { volume = after.good; files = h.good.files; numbered = h.good.numbered; reads = h.good.reads };
           kept = after;
           points = h.points;
+          aimed = aims_book (state x.disk).settings.aim s.volume (with_anchor id i.number s.volume.book) h.aimed;
         },
       );
 })

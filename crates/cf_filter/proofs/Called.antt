@@ -43,7 +43,7 @@ module _ {D : Type 0} (state : D → State) where
   told_as show part old mid p (Err OutOfMemory) is h = record { leads = λ s i u. let x = h.leads s i u in (x.0, record {}, x.2, lasts_after p old mid x.0 x.3) }
 
   pub whole_again : (x : Held D) (t : Filter) → (sense state).means x t → (sense state).means (record x { desk = record x.desk { broken = false } }) t
-  whole_again x t h = record { fair = h.fair; volume = h.volume; desk = ap (λ (d : Desk). record d { broken = false }) h.desk; whole = h.whole; good = h.good; kept = h.kept; points = h.points }
+  whole_again x t h = record { fair = h.fair; volume = h.volume; desk = ap (λ (d : Desk). record d { broken = false }) h.desk; whole = h.whole; good = h.good; kept = h.kept; points = h.points; aimed = h.aimed }
 
   -- what stands says nothing of whether the filter is broken, but where the part went through
   broken_after : {A : Type 0} (show : A → Shown) (q : Told A) (x y : Held D) (t : Filter) → After (sense state) x (shown_by show q) y t → After (sense state) x (shown_by show q) (broken_by (is_stopped q) y) t

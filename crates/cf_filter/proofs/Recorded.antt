@@ -3,6 +3,7 @@ use Rattle.std.proofs.Common.{◌≡◌, ℕ, Bool, true, false, List, [], ◌�
 use Rattle.std.proofs.lemmas.Result.{err_from_is_err_and}
 use Rattle.std.specs.Prelude.{Err, IfOk, Ok, OnOk, Result, find, is_err, ◌==◌}
 use Rattle.std.specs.Result.{IsErrAnd}
+use Rattle.cf_filter_machine.proofs.Aims.{aims_book}
 use Rattle.cf_base.specs.declared.answers.Access.{Access}
 use Rattle.cf_base.specs.declared.answers.Anchor.{Anchor}
 use Rattle.cf_base.specs.declared.answers.AuxRecord.{AuxRecord}
@@ -79,6 +80,7 @@ module _ {D : Type 0} (state : D → State) (key : List ℕ) (value : Option (Li
             good = record { volume = after.good; files = h.good.files; numbered = h.good.numbered; reads = h.good.reads };
             kept = after;
             points = h.points;
+            aimed = aims_book (state old.disk).settings.aim s.volume (f s.volume.book) h.aimed;
           },
         );
   })

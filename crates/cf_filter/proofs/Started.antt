@@ -1,6 +1,8 @@
 -- Filters that begin.
-use Rattle.std.proofs.Common.{◌≡◌, ℕ, Bool, true, false, cond, List, [], ◌∷◌, Some, None, refl, sym, ap, subst, arith, eqb}
+use Rattle.std.proofs.Common.{◌≡◌, ℕ, Bool, true, false, cond, List, [], ◌∷◌, length, Some, None, refl, sym, ap, subst, arith, eqb}
 use Rattle.std.proofs.lemmas.Option.{none-some, same_Some}
+use Rattle.cf_volume_room.proofs.Aimed.{settled_aimed}
+use Rattle.cf_volume_room.specs.Aims.{IsSettled}
 use Rattle.cf_base.specs.declared.changes.Change.{Change}
 use Rattle.cf_base.specs.declared.ids.ItemId.{ItemId}
 use Rattle.cf_base.specs.declared.ids.Usn.{Usn}
@@ -12,7 +14,7 @@ use Rattle.cf_filter_machine.specs.Held.{Held}
 use Rattle.cf_filter_machine.specs.Keeping.{HasKeptPoints, IsKeptVolume}
 use Rattle.cf_filter_machine.specs.Sensing.{Stands}
 use Rattle.cf_filter.specs.Starting.{desk_at}
-use Rattle.cf_model.specs.Books.{Book}
+use Rattle.cf_model.specs.Books.{Book, no_book}
 use Rattle.cf_model.specs.Items.{Item, item_of, root}
 use Rattle.cf_model.specs.State.{Volume, new_filter, new_volume}
 use Rattle.cf_volume_points.proofs.Points.{Fair}
@@ -81,8 +83,8 @@ with_clusters clusters v h = record {
 
 module _ {D : Type 0} (state : D → State) (x : Held D) (d : D) (k : Known) (policy : Policy) (fair : Fair (state d)) (whole : k.broken ≡ false)
     (is : x ≡ record { disk = d; known = k; desk = desk_at k.epoch policy }) where
-  starts : (v : Volume) → At (state d) k v → IsKeptVolume v → HasKeptPoints v → Stands state x (new_filter v policy)
-  starts v at kept points = subst (λ (y : Held D). Stands state y (new_filter v policy)) (sym is) (record {
+  starts : (v : Volume) → At (state d) k v → IsKeptVolume v → HasKeptPoints v → IsSettled v → Stands state x (new_filter v policy)
+  starts v at kept points settled = subst (λ (y : Held D). Stands state y (new_filter v policy)) (sym is) (record {
     fair = fair;
     volume = at;
     desk = ap (λ (e : ℕ). desk_at e policy) at.now.epoch;
@@ -90,13 +92,16 @@ module _ {D : Type 0} (state : D → State) (x : Held D) (d : D) (k : Known) (po
     good = record { volume = kept.good; files = record {}; numbered = record {}; reads = record {} };
     kept = kept;
     points = points;
+    aimed = settled_aimed (state d).settings.aim v settled;
   })
 
   pub starts_opened : (epoch : ℕ) (log : List (Usn × Change)) (b : Book) (clusters : ℕ) → At (state d) k (opened epoch log b clusters) → IsKeptVolume (opened epoch log b 0) → Stands state x (new_filter (opened epoch log b clusters) policy)
   starts_opened epoch log b clusters at kept =
       let now = with_clusters clusters (opened epoch log b 0) kept in
       starts (opened epoch log b clusters) at now (sure_points (opened epoch log b clusters) at.now.of_log now)
+      (record { point = record { sure = true; count = length log; book = b }; points = refl; sure = refl; all = omega arith; items_then = refl; none_since = refl })
 
   pub starts_new : (clusters : ℕ) → At (state d) k (new_volume clusters) → Stands state x (new_filter (new_volume clusters) policy)
   starts_new clusters at =
       let kept = new_kept clusters at.now.fits in starts (new_volume clusters) at kept (sure_points (new_volume clusters) at.now.of_log kept)
+      (record { point = record { sure = true; count = 0; book = no_book }; points = refl; sure = refl; all = omega arith; items_then = refl; none_since = refl })

@@ -63,6 +63,7 @@ module _ {D : Type 0} (state : D → Disk) where
     good = good_hushed f h.good;
     kept = h.kept;
     points = h.points;
+    aimed = h.aimed;
   }
 
   pub stands_noted : (x : Held D) (f : Filter) → x.desk.notes ≡ [] → Stands state x f → Stands state (noted [] x) f

@@ -4,6 +4,8 @@ use Rattle.std.proofs.lemmas.Bool.{eqb-true, true≢false}
 use Rattle.std.specs.Prelude.{Err, MatchOption, Ok, Result}
 use Rattle.std.proofs.lemmas.Result.{err_from_is_err_and}
 use Rattle.std.specs.Result.{IsErrAnd}
+use Rattle.cf_filter_machine.proofs.Aims.{aims_book}
+use Rattle.cf_volume_room.specs.Aims.{IsAimedBy}
 use Rattle.cf_base.specs.declared.codes.CallError.{CallError}
 use Rattle.cf_base.specs.declared.codes.CallError.TheVariants.{OutOfMemory}
 use Rattle.cf_base.specs.declared.ids.ItemId.{ItemId}
@@ -69,6 +71,7 @@ module _ {D : Type 0} (state : D → State) (P : Filter → Type 0) (x y : Held 
             good = r.good;
             kept = r.kept;
             points = subst HasKeptPoints (sym r.same) (points_stay s.volume r.book h.points);
+            aimed = subst (IsAimedBy (state x.disk).settings.aim) (sym r.same) (aims_book (state x.disk).settings.aim s.volume r.book h.aimed);
           },
         );
   })

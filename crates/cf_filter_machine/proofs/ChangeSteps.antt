@@ -6,13 +6,14 @@ use Rattle.std.proofs.lemmas.Option.{none-some}
 use Rattle.std.proofs.lemmas.Result.{err_from_is_err_and}
 use Rattle.std.specs.Prelude.{Err, None, Ok, Result}
 use Rattle.std.specs.Result.{IsErrAnd}
+use Rattle.cf_filter_machine.proofs.Aims.{Follows, aims_on, aims_put, from_room, ready, rising}
 use Rattle.cf_base.specs.declared.changes.Change.{Change}
 use Rattle.cf_base.specs.declared.codes.CallError.{CallError}
 use Rattle.cf_base.specs.declared.codes.CallError.TheVariants.{OutOfMemory, No}
 use Rattle.cf_base.specs.declared.ids.ItemId.{ItemId}
 use Rattle.cf_base.specs.declared.ids.Usn.{Usn}
 use Rattle.cf_base.specs.declared.notices.Notice.TheVariants as notice
-use Rattle.cf_disk.specs.Disk.{Leaves, State}
+use Rattle.cf_disk.specs.Disk.{Leaves, Settings, State}
 use Rattle.cf_disk.specs.Leaving.{leaves_weaker}
 use Rattle.cf_filter_machine.proofs.BookSteps.{touched_book}
 use Rattle.cf_filter_machine.proofs.ChangesKept.{kept_change}
@@ -53,20 +54,16 @@ longer_point epoch log more p h = record {
   volume = subst (λ (l : List (Usn × Change)). IsKeptVolume (opened (epoch + 1) l p.book 0)) (sym (take-append-le p.count log more h.early)) h.volume;
 }
 
--- The volume to which a change comes: after a commit that made room, or as it was.
-abbrev pub from_room : Bool → Volume → Volume
-from_room false v = v
-from_room true v = with_room_point v
-
 -- a change was put in, and a commit for room came before it only where it may be needed
 pub record WasPut (d : State) (k : Known) (c : Change) (v : Volume) : Type 0 where
   pub room : Bool
   pub allowed : room ≡ true → may_need_room c v ≡ true
+  pub follows : Follows d.settings.aim c v room
   pub at : At d k (put_change c (from_room room v))
 
 pub put_of : (d : State) (k : Known) (c : Change) (v : Volume) → Applied d k c v → WasPut d k c v
-put_of d k c v (inl at) = record { room = false; allowed = λ e. absurd (true≢false (sym e)); at = at }
-put_of d k c v (inr at) = record { room = true; allowed = λ e. at.0; at = at.1 }
+put_of d k c v (inl put) = record { room = false; allowed = λ e. absurd (true≢false (sym e)); follows = record { at_once = λ e. put.unwanted; after = λ e. absurd (true≢false (sym e)) }; at = put.at }
+put_of d k c v (inr put) = record { room = true; allowed = λ e. put.needed; follows = record { at_once = λ e. absurd (true≢false e); after = λ e. put.wanted }; at = put.at }
 
 module _ (c : Change) (f : Book → Book) (v : Volume) where
   -- the volume after it, with what its step does to the book
@@ -128,6 +125,7 @@ stop_shows k v true h = shows_begun k v h
 pub record IsPut (d : State) (k : Known) (f : Book → Book) (c : Change) (s : Filter) : Type 0 where
   pub room : Bool
   pub allowed : room ≡ true → may_need_room c s.volume ≡ true
+  pub follows : Follows d.settings.aim c s.volume room
   pub at : At d k (later c f s.volume room)
   pub kept : IsKeptVolume (later c f s.volume room)
   pub good : IsGood (told f c room s)
@@ -163,6 +161,8 @@ module _ {D : Type 0} (state : D → State) (P : Filter → Type 0) (x : Held D)
             good = r.good;
             kept = r.kept;
             points = put_points c f s.volume r.room h.volume.now.of_log h.kept h.points;
+            aimed = aims_put (state d).settings.aim f c s.volume r.room (ready (state x.disk) x.known s.volume h.volume (rising s.volume.items h.kept.good.tree.order) h.points) r.follows
+                (aims_on (state x.disk) (state d) s.volume runs.settings h.aimed);
           },
         );
   }
@@ -259,11 +259,11 @@ pub suited : {D : Type 0} (state : D → State) (x : Held D) (d : State) (k : Kn
 suited state x d k c s h suits applied =
     let w = put_of d k c s.volume applied in
     let kept : IsKeptVolume (put_change c (from_room w.room s.volume)) = kept_after d k c s.volume w.room suits h.volume.now.book h.kept w.at in
-    record { room = w.room; allowed = w.allowed; at = w.at; kept = kept; good = after_good (λ b. b) c w.room s kept (files_after c s.volume w.room suits) h.good }
+    record { room = w.room; allowed = w.allowed; follows = w.follows; at = w.at; kept = kept; good = after_good (λ b. b) c w.room s kept (files_after c s.volume w.room suits) h.good }
 
 -- and it is an access
-pub accessed_put : (d e : State) (k j : Known) (c : Change) (item : ItemId) (s : Filter) → Suits c s.volume → IsFileIn s.volume.items item → IsGood s → (r : IsPut d k (λ b. b) c s) → At e j (later c (with_access item) s.volume r.room) → IsPut e j (with_access item) c s
-accessed_put d e k j c item s suits file good r at =
+pub accessed_put : (d e : State) (k j : Known) (c : Change) (item : ItemId) (s : Filter) → Suits c s.volume → IsFileIn s.volume.items item → IsGood s → (r : IsPut d k (λ b. b) c s) → e.settings ≡ d.settings → At e j (later c (with_access item) s.volume r.room) → IsPut e j (with_access item) c s
+accessed_put d e k j c item s suits file good r same at =
     let files = files_after c s.volume r.room suits in
     let kept : IsKeptVolume (later c (with_access item) s.volume r.room) = touched_book item (later c (λ b. b) s.volume r.room) (files item file) r.kept in
-    record { room = r.room; allowed = r.allowed; at = at; kept = kept; good = after_good (with_access item) c r.room s kept files good }
+    record { room = r.room; allowed = r.allowed; follows = subst (λ (z : Settings). Follows z.aim c s.volume r.room) (sym same) r.follows; at = at; kept = kept; good = after_good (with_access item) c r.room s kept files good }

@@ -3,6 +3,7 @@ use Rattle.std.proofs.Common.{◌≡◌, inl, false, refl, sym, ◌∙◌, ap, s
 use Rattle.std.proofs.lemmas.Result.{err_from_is_err_and}
 use Rattle.std.specs.Prelude.{Err, Ok, Result}
 use Rattle.std.specs.Result.{IsErrAnd}
+use Rattle.cf_volume_room.proofs.Aimed.{sure_aimed}
 use Rattle.cf_base.specs.declared.codes.CallError.{CallError}
 use Rattle.cf_base.specs.declared.codes.CallError.TheVariants.{OutOfMemory, No}
 use Rattle.cf_disk.specs.Disk.{Leaves, State}
@@ -44,6 +45,7 @@ module _ {D : Type 0} (state : D → State) (x : Held D) (d : D) (k : Known) (e 
         good = record { volume = (sure_kept s.volume h.kept).good; files = h.good.files; numbered = h.good.numbered; reads = h.good.reads };
         kept = sure_kept s.volume h.kept;
         points = sure_points s.volume h.volume.now.of_log h.kept;
+        aimed = sure_aimed (state d).settings.aim s.volume h.volume.now.of_log.0;
       },
     );
   }

@@ -3,6 +3,7 @@ use Rattle.std.proofs.Common.{◌≡◌, ℕ, List, false, refl, sym, ◌∙◌,
 use Rattle.std.proofs.lemmas.Result.{err_from_is_err_and}
 use Rattle.std.specs.Prelude.{Ok, Err, IfErr, Result}
 use Rattle.std.specs.Result.{IsErrAnd}
+use Rattle.cf_volume_room.specs.Aims.{IsAimedBy}
 use Rattle.cf_base.specs.declared.codes.CallError.{CallError}
 use Rattle.cf_base.specs.declared.codes.CallError.TheVariants.{OutOfMemory}
 use Rattle.cf_disk.specs.Disk.{Leaves, State}
@@ -43,6 +44,7 @@ stands_with state x e s t h same desk good = record {
   good = good;
   kept = subst IsKeptVolume (sym same) h.kept;
   points = subst HasKeptPoints (sym same) h.points;
+  aimed = subst (IsAimedBy (state x.disk).settings.aim) (sym same) h.aimed;
 }
 
 -- a step of the desk that does what a step of the state does to its desk

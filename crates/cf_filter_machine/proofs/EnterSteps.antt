@@ -4,6 +4,8 @@ use Rattle.std.proofs.lemmas.Bool.{true≢false}
 use Rattle.std.proofs.lemmas.Result.{err_from_is_err_and}
 use Rattle.std.specs.Prelude.{Err, IfErr, IfOk, None, Ok, Result}
 use Rattle.std.specs.Result.{IsErrAnd}
+use Rattle.cf_filter_machine.proofs.Aims.{aims_on, aims_put, needs_none, ready, rising_coming}
+use Rattle.cf_volume_room.specs.Aims.{IsAimedBy}
 use Rattle.cf_base.specs.declared.answers.AuxRecord.{AuxRecord}
 use Rattle.cf_base.specs.declared.changes.Change.{Change}
 use Rattle.cf_base.specs.declared.changes.Change.TheVariants as change
@@ -129,6 +131,11 @@ module _ {D : Type 0} (state : D → State) (dir : ItemId) (x : Held D) (c : Cha
   points_to : (g : Book → Book) (s : Filter) → Coming state dir x s → HasKeptPoints (later c g s.volume false)
   points_to g s h = λ p o. longer_point s.volume.epoch s.volume.log ((next_number s.volume, c) ∷ []) p (h.points p o)
 
+  aimed_to : (g : Book → Book) → is_listed c ≡ true → (s : Filter) → Coming state dir x s → IsAimedBy (state d).settings.aim (later c g s.volume false)
+  aimed_to g is s h =
+      aims_put (state d).settings.aim g c s.volume false (ready (state x.disk) x.known s.volume h.volume (rising_coming dir s.volume.items h.kept.good.tree.order) h.points)
+      (needs_none (state d).settings.aim c s.volume ((plain c is).room s.volume)) (aims_on (state x.disk) (state d) s.volume runs.settings h.aimed)
+
   desk_to : (e : Desk) (n : Usn) (g : Book → Book) (s : Filter) → Coming state dir x s → e ≡ record x.desk { notes = x.desk.notes ++ notice.Change n c ∷ [] } → n ≡ next_number s.volume → e ≡ desk_of (told g c false s)
   desk_to e n g s h desk number =
       desk ∙ ap (λ (z : Desk). record z { notes = z.notes ++ notice.Change n c ∷ [] }) h.desk
@@ -152,6 +159,7 @@ module _ {D : Type 0} (state : D → State) (dir : ItemId) (x : Held D) (c : Cha
             whole = usable;
             kept = kept_entry dir s.volume h.kept h.volume.now.book c p.entry at.now.fits;
             points = points_to same_book s h;
+            aimed = aimed_to same_book is s h;
             files = still_opened s.volume.items (put_change c s.volume).items files s.handles h.files;
             numbered = h.numbered;
             reads = still_reads s.volume.items (put_change c s.volume).items files s.waiting.waits h.reads;
@@ -188,6 +196,7 @@ module _ {D : Type 0} (state : D → State) (dir : ItemId) (x : Held D) (c : Cha
             };
             kept = kept;
             points = points_to f s h;
+            aimed = aimed_to f is s h;
           },
         );
   }
@@ -324,8 +333,8 @@ last_put d k c v f records is at n h = records_beside d k (put_change c v) f rec
 -- of the volume alone
 
 pub put_plain : (d : State) (k : Known) (c : Change) (v : Volume) → is_listed c ≡ true → Applied d k c v → At d k (put_change c v)
-put_plain d k c v is (inl at) = at
-put_plain d k c v is (inr h) = absurd (true≢false (sym h.0 ∙ (plain c is).room v))
+put_plain d k c v is (inl put) = put.at
+put_plain d k c v is (inr put) = absurd (true≢false (sym put.needed ∙ (plain c is).room v))
 
 pub stops_alone : {D : Type 0} (c : Change) (v : Volume) (old new : OnDisk D) (r : Result Usn CallError) → why_no_room (c ∷ []) v ≡ None → volume.Answers c v old r new → IfErr r StopsOnly
 stops_alone c v old new (Ok n) none h = record {}

@@ -34,3 +34,4 @@ pub mod StillFiles
 pub mod TellsRows
 pub mod WithinLimits
 pub mod WrittenHere
+pub mod Aims

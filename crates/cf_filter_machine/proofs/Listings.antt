@@ -92,6 +92,7 @@ comes_in state f dir cs records x s h p = record {
   whole = h.whole;
   kept = kept_early dir s.volume (directory_first dir cs s.volume p.ends p.entries) h.kept;
   points = h.points;
+  aimed = h.aimed;
   files = h.good.files;
   numbered = h.good.numbered;
   reads = h.good.reads;

@@ -3,6 +3,8 @@ use Rattle.std.proofs.Common.{◌≡◌, inl, false, ℕ, List, refl, sym, ◌�
 use Rattle.std.proofs.lemmas.Result.{err_from_is_err_and}
 use Rattle.std.specs.Prelude.{Err, IfErr, Ok, OnOk, Result}
 use Rattle.std.specs.Result.{IsErrAnd}
+use Rattle.cf_filter_machine.proofs.Aims.{aims_book, aims_on}
+use Rattle.cf_volume_room.specs.Aims.{IsAimedBy}
 use Rattle.cf_base.specs.declared.codes.CallError.{CallError}
 use Rattle.cf_base.specs.declared.codes.CallError.TheVariants.{OutOfMemory, No}
 use Rattle.cf_disk.specs.Disk.{Leaves, State}
@@ -59,6 +61,7 @@ module _ {D : Type 0} (state : D → State) (P : Filter → Type 0) (x : Held D)
             good = r.good;
             kept = r.kept;
             points = subst HasKeptPoints (sym r.same) (points_stay s.volume r.book h.points);
+            aimed = subst (IsAimedBy (state d).settings.aim) (sym r.same) (aims_book (state d).settings.aim s.volume r.book (aims_on (state x.disk) (state d) s.volume runs.settings h.aimed));
           },
         );
   }

@@ -2,6 +2,7 @@
 use Rattle.std.proofs.Common.{◌≡◌, ◌+◌, inl, inr, ℕ, Bool, true, false, cond, eqb, List, [], ◌∷◌, ◌++◌, None, refl, sym, ◌∙◌, ap, subst}
 use Rattle.std.specs.Prelude.{Err, MatchOption, Ok, Option, Some}
 use Rattle.std.proofs.lemmas.Bool.{true≢false}
+use Rattle.cf_filter_machine.proofs.Aims.{aims_on, aims_put, needs_none, ready, rising}
 use Rattle.cf_base.specs.declared.changes.Change.TheVariants as change
 use Rattle.cf_base.specs.declared.codes.CallError.{CallError}
 use Rattle.cf_base.specs.declared.codes.CallError.TheVariants.{OutOfMemory, No}
@@ -107,6 +108,9 @@ module _ {D : Type 0} (state : D → State) (x : Held D) (id : ItemId) (bury : B
         };
         kept = kept;
         points = put_points (change.Remove id) (buried bury i (next_number s.volume)) s.volume false h.volume.now.of_log h.kept h.points;
+        aimed = aims_put (state d).settings.aim (buried bury i (next_number s.volume)) (change.Remove id) s.volume false
+            (ready (state x.disk) x.known s.volume h.volume (rising s.volume.items h.kept.good.tree.order) h.points) (needs_none (state d).settings.aim (change.Remove id) s.volume refl)
+            (aims_on (state x.disk) (state d) s.volume runs.settings h.aimed);
       }
 
   -- its own id is that of the definitions
@@ -151,8 +155,8 @@ module _ {D : Type 0} (state : D → State) (x : Held D) (id : ItemId) (bury : B
 -- of the volume alone
 
 pub was_gone : (d : State) (k : Known) (id : ItemId) (v : Volume) → Applied d k (change.Remove id) v → At d k (put_change (change.Remove id) v)
-was_gone d k id v (inl at) = at
-was_gone d k id v (inr h) = absurd (true≢false (sym h.0))
+was_gone d k id v (inl put) = put.at
+was_gone d k id v (inr put) = absurd (true≢false (sym put.needed))
 
 pub gone_at : (d : State) (k : Known) (bury : Bool) (id : ItemId) (i : Item) (v : Volume) (b : Book) → b ≡ buried bury i (next_number v) (put_change (change.Remove id) v).book → At d k (record (put_change (change.Remove id) v) { book = b }) → At d k (gone bury id i v)
 gone_at d k bury id i v b same at = subst (λ (c : Book). At d k (record (put_change (change.Remove id) v) { book = c })) same at

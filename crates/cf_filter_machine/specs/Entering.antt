@@ -21,6 +21,7 @@ use Rattle.cf_model.specs.State.{Filter, Volume}
 use Rattle.cf_model.specs.Trees.{Does}
 use Rattle.cf_volume_points.proofs.Points.{Fair}
 use Rattle.cf_volume_points.specs.At.{At}
+use Rattle.cf_volume_room.specs.Aims.{IsAimedBy}
 use Rattle.cf_filter_steps.specs.Good.{Every, IsFileIn, IsOnFile}
 use Rattle.cf_filter_steps.specs.Listing.{HasRecordsBeside, IsEntry}
 use Rattle.cf_volume.specs.Calls.{OnDisk}
@@ -66,6 +67,7 @@ pub record Coming {D : Type 0} (state : D → State) (dir : ItemId) (x : Held D)
   pub whole : x.known.broken ≡ false
   pub kept : IsKeptVolume (ahead dir s.volume)
   pub points : HasKeptPoints s.volume
+  pub aimed : IsAimedBy (state x.disk).settings.aim s.volume
   pub files : Every (λ o. IsFileIn s.volume.items o.item) s.handles
   pub numbered : Every (λ w. same_key w.id.0 no_key ≡ false) s.waiting.waits
   pub reads : Every (λ w. IsOnFile w.kind s.volume.items w.item) s.waiting.waits

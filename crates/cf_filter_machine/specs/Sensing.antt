@@ -12,6 +12,7 @@ use Rattle.cf_volume.specs.Calls.{Runs}
 use Rattle.cf_model.specs.State.{Filter}
 use Rattle.cf_volume_points.proofs.Points.{Fair}
 use Rattle.cf_volume_points.specs.At.{At}
+use Rattle.cf_volume_room.specs.Aims.{IsAimedBy}
 use Rattle.cf_filter_steps.specs.Answering.{Sense}
 use Rattle.cf_filter_steps.specs.Good.{IsGood}
 
@@ -24,6 +25,8 @@ pub record Stands {D : Type 0} (state : D → State) (x : Held D) (s : Filter) :
   pub good : IsGood s
   pub kept : IsKeptVolume s.volume
   pub points : HasKeptPoints s.volume
+  -- commits for room were made where the disk wants them
+  pub aimed : IsAimedBy (state x.disk).settings.aim s.volume
 
 -- a device call failed from the one to the other
 abbrev pub Rose : State → State → Type 0

@@ -93,7 +93,7 @@ returns-clause-does g c =
     (λ s h p.
     let r = suited g.D.Disk.state c.args.self.now (g.D.Disk.state c.apply.new.self.disk) c.apply.new.self.known c.args.change s h p.ready.suits
     (c.in-Ok.ensures.ok s.volume (seen_at g.D.Disk.state s.volume c.self.view_is h.volume) (fits_book c.args.change s.volume.items s.volume.next_item s.volume.book p.ready.suits.plants) (λ _. keepable s.volume h.kept)) in
-    accessed_put (g.D.Disk.state c.apply.new.self.disk) (g.D.Disk.state c.apply.new.self.disk) c.apply.new.self.known c.touch.new.self.known c.args.change c.args.item s p.ready.suits p.file h.good r
+    accessed_put (g.D.Disk.state c.apply.new.self.disk) (g.D.Disk.state c.apply.new.self.disk) c.apply.new.self.known c.touch.new.self.known c.args.change c.args.item s p.ready.suits p.file h.good r refl
     (on_disk g.D.Disk.state c.touch.new.self.known (later c.args.change (with_access c.args.item) s.volume r.room) c.touch.ensures.disk (c.in_default.ensures.ok (later c.args.change (λ b. b) s.volume r.room) r.at))))
 
 pub returns-clause-same : goal.returns-clause-same
