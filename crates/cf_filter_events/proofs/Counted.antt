@@ -37,15 +37,15 @@ never_both e = let z : false ≡ true = e in absurd cc
 
 -- a disk that is not used
 pub stays : (d : Disk) → GoesOn d d
-stays d = (omega arith, omega arith)
+stays d = (omega arith, omega arith, refl)
 
 -- a disk after calls
 pub ran_on : (d e : Disk) → Runs d e → GoesOn d e
-ran_on d e runs = (runs.faults, runs.calm)
+ran_on d e runs = (runs.faults, runs.calm, runs.settings)
 
 -- a power cut ends what was armed
-pub cut_off : (d e : Disk) → e.faults ≡ d.faults → e.armed ≡ option_map (λ _. None) d.armed → GoesOn d e
-cut_off d e same armed = (omega (arith, same), by d.armed armed) where
+pub cut_off : (d e : Disk) → e.faults ≡ d.faults → e.armed ≡ option_map (λ _. None) d.armed → e.settings ≡ d.settings → GoesOn d e
+cut_off d e same armed settings = (omega (arith, same), by d.armed armed, settings) where
   by : (a : Option (Option ℕ)) → e.armed ≡ option_map (λ _. None) a → may_fail e.armed ≤ may_fail a
   by None is = omega (arith, ap may_fail is)
   by (Some n) is = omega (arith, ap may_fail is)
@@ -69,11 +69,11 @@ counts_always Is x r d e h = record { counts = λ past s is. h }
 -- of an event, which may be a stop
 
 pub counts_by : (n : ℕ) (r : Result Answer NoMemory) (d e : Disk) → CountsTo r d e → CountsBy n r d e
-counts_by n (Ok a) d e h = (h.0.0, omega (arith, h.0.1), h.1)
+counts_by n (Ok a) d e h = (h.0.0, omega (arith, h.0.1), h.1, h.0.2)
 counts_by n (Err m) d e h = record {}
 
-pub stop_counts : (calls : ℕ) (a : Answer) (r : Shown) (d e : Disk) → a ≡ answer_with r [] → meets_device r ≡ false → e.faults ≡ d.faults → e.armed ≡ option_map (λ _. Some calls) d.armed → CountsBy 1 (Ok a) d e
-stop_counts calls a r d e is plain same armed = (omega (arith, same), by d.armed armed, λ met. never_both (sym (ap (λ (b : Answer). meets_device b.shown) is ∙ plain) ∙ met))
+pub stop_counts : (calls : ℕ) (a : Answer) (r : Shown) (d e : Disk) → a ≡ answer_with r [] → meets_device r ≡ false → e.faults ≡ d.faults → e.armed ≡ option_map (λ _. Some calls) d.armed → e.settings ≡ d.settings → CountsBy 1 (Ok a) d e
+stop_counts calls a r d e is plain same armed settings = (omega (arith, same), by d.armed armed, λ met. never_both (sym (ap (λ (b : Answer). meets_device b.shown) is ∙ plain) ∙ met), settings)
   where
     by : (o : Option (Option ℕ)) → e.armed ≡ option_map (λ _. Some calls) o → may_fail e.armed ≤ may_fail o + 1
     by None h = omega (arith, ap may_fail h)

@@ -32,9 +32,9 @@ use Rattle.cf_model.specs.State.{Filter, Off, State}
 
 module _ {D A : Type 0} (acts : Acts A) (state : D → Disk) where
   -- whatever a crash leaves of the one disk it left of the other
-  pub still_off : (past : Past) (x y : Cut D A) (s t : State) → y.policy ≡ x.policy → size_of (state y.disk) ≡ size_of (state x.disk) → (state y.disk).settings.quota ≡ (state x.disk).settings.quota → (state y.disk).powers ≡ (state x.disk).powers → ((c : List ℕ) → (state y.disk).may_leave c → (state x.disk).may_leave c)
+  pub still_off : (past : Past) (x y : Cut D A) (s t : State) → y.policy ≡ x.policy → y.whole ≡ x.whole → size_of (state y.disk) ≡ size_of (state x.disk) → (state y.disk).settings.quota ≡ (state x.disk).settings.quota → (state y.disk).powers ≡ (state x.disk).powers → ((c : List ℕ) → (state y.disk).may_leave c → (state x.disk).may_leave c)
       → t.mode ≡ s.mode → t.power ≡ Off → acts.holds y.actor t → t.failed_opens ≡ s.failed_opens → t.filter.volume ≡ s.filter.volume → t.filter.policy ≡ s.filter.policy → IsOff acts state past x s → IsOff acts state past y t
-  still_off past x y s t policy size quota powers leaves mode power holds opens volume same off = record {
+  still_off past x y s t policy whole size quota powers leaves mode power holds opens volume same off = record {
     mode = mode ∙ off.mode;
     power = power;
     holds = holds;
@@ -42,6 +42,7 @@ module _ {D A : Type 0} (acts : Acts A) (state : D → Disk) where
     disk = subst (λ (v : _). IsDiskOf past (state y.disk) v) (sym volume) (disk_again past (state x.disk) (state y.disk) s.filter.volume size quota powers off.disk);
     point = off.point;
     opens = rw volume off.opens;
+    newest = λ so. rw volume (off.newest (sym whole ∙ so));
     kept = rw volume off.kept;
     lasts = λ c may. let h = off.lasts c (leaves c may) in record { taken = h.taken; few = rw opens h.few; stands = rw volume h.stands };
     image = off.image;
@@ -53,21 +54,21 @@ module _ {D A : Type 0} (acts : Acts A) (state : D → Disk) where
   off_refuses e x of needs = record { leads = λ past s off. (s, off_step acts.mode e s of needs off.power, off) }
 
   -- an event that needs no volume
-  off_left : (past : Past) (x y : Cut D A) (s t : State) → y.policy ≡ x.policy → y.disk ≡ x.disk → LeavesFilter s t → acts.holds y.actor t → IsOff acts state past x s → IsOff acts state past y t
-  off_left past x y s t policy disk leaves holds off =
+  off_left : (past : Past) (x y : Cut D A) (s t : State) → y.policy ≡ x.policy → y.whole ≡ x.whole → y.disk ≡ x.disk → LeavesFilter s t → acts.holds y.actor t → IsOff acts state past x s → IsOff acts state past y t
+  off_left past x y s t policy whole disk leaves holds off =
       let size : size_of (state y.disk) ≡ size_of (state x.disk) = ap (λ (d : D). size_of (state d)) disk in
       let quota : (state y.disk).settings.quota ≡ (state x.disk).settings.quota = ap (λ (d : D). (state d).settings.quota) disk in
       let powers : (state y.disk).powers ≡ (state x.disk).powers = ap (λ (d : D). (state d).powers) disk in
       let volume : t.filter.volume ≡ s.filter.volume = ap (λ (f : Filter). f.volume) leaves.filter in
       let same : t.filter.policy ≡ s.filter.policy = ap (λ (f : Filter). f.policy) leaves.filter in
-      still_off past x y s t policy size quota powers (λ c may. subst (λ (d : D). (state d).may_leave c) disk may) leaves.mode (leaves.power ∙ off.power) holds leaves.opens volume same off
+      still_off past x y s t policy whole size quota powers (λ c may. subst (λ (d : D). (state d).may_leave c) disk may) leaves.mode (leaves.power ∙ off.power) holds leaves.opens volume same off
 
-  off_stepped : (past : Past) (e : Event) (x y : Cut D A) (s : State) (r : Result Answer NoMemory) → y.policy ≡ x.policy → y.disk ≡ x.disk → IsOff acts state past x s → LeavesTo acts.mode acts.holds e s r y.actor → SteppedTo acts.mode (IsOff acts state past) e s r y
-  off_stepped past e x y s (Ok a) policy disk off h = (h.0, h.1, off_left past x y s h.0 policy disk h.2 h.3 off)
-  off_stepped past e x y s (Err k) policy disk off h = record {}
+  off_stepped : (past : Past) (e : Event) (x y : Cut D A) (s : State) (r : Result Answer NoMemory) → y.policy ≡ x.policy → y.whole ≡ x.whole → y.disk ≡ x.disk → IsOff acts state past x s → LeavesTo acts.mode acts.holds e s r y.actor → SteppedTo acts.mode (IsOff acts state past) e s r y
+  off_stepped past e x y s (Ok a) policy whole disk off h = (h.0, h.1, off_left past x y s h.0 policy whole disk h.2 h.3 off)
+  off_stepped past e x y s (Err k) policy whole disk off h = record {}
 
-  pub off_beside : (e : Event) (x y : Cut D A) (r a : Result Answer NoMemory) → y.policy ≡ x.policy → y.disk ≡ x.disk → StepsBeside acts e x.actor r y.actor → a ≡ known_by false r → Steps acts.mode (IsOff acts state) e x a y
-  off_beside e x y r a policy disk beside is = record { leads = λ past s off. known_steps acts.mode (IsOff acts state past) e s y false r a is (off_stepped past e x y s r policy disk off (beside.held s off.mode off.holds)) }
+  pub off_beside : (e : Event) (x y : Cut D A) (r a : Result Answer NoMemory) → y.policy ≡ x.policy → y.whole ≡ x.whole → y.disk ≡ x.disk → StepsBeside acts e x.actor r y.actor → a ≡ known_by false r → Steps acts.mode (IsOff acts state) e x a y
+  off_beside e x y r a policy whole disk beside is = record { leads = λ past s off. known_steps acts.mode (IsOff acts state past) e s y false r a is (off_stepped past e x y s r policy whole disk off (beside.held s off.mode off.holds)) }
 
   -- a volume stands on no disk of such a size
   pub unfit_step : (e : Event) (x : Cut D A) (y : Acting D A) (r : Result Answer NoMemory) → (IsFitSize (size_of (state x.disk)) → ⊥) → StepsOver acts.mode (Is acts state) e (acting.Off x) r y
@@ -78,24 +79,24 @@ module _ {D A : Type 0} (answers : Answering A) (acts : Acts A) (actor : IsActor
   pub held_on : (x y : Cut D A) (s t : State) → y.actor ≡ x.actor → t.link ≡ s.link → t.peer_tokens ≡ s.peer_tokens → acts.holds x.actor s → acts.holds y.actor t
   held_on x y s t kept link tokens h = subst (λ (p : A). acts.holds p t) (sym kept) (actor.holds_on x.actor s t link tokens h)
 
-  pub off_stop : (n : ℕ) (x y : Cut D A) → y.policy ≡ x.policy → y.actor ≡ x.actor → IsUnchanged (state x.disk) (state y.disk) → Steps acts.mode (IsOff acts state) (event.Device (device.Stop n)) x (Ok (answer_with shown.Done [])) y
-  off_stop n x y policy kept same = record {
+  pub off_stop : (n : ℕ) (x y : Cut D A) → y.policy ≡ x.policy → y.whole ≡ x.whole → y.actor ≡ x.actor → IsUnchanged (state x.disk) (state y.disk) → Steps acts.mode (IsOff acts state) (event.Device (device.Stop n)) x (Ok (answer_with shown.Done [])) y
+  off_stop n x y policy whole kept same = record {
     leads = λ past s off. (
       begun s,
       ended_step acts.mode s (event.Device (device.Stop n)) shown.Done (begun s) (device_of acts.mode (device.Stop n)) refl (refl, refl),
-      still_off acts state past x y s (begun s) policy (ap length same.seen) (same_quota (state x.disk) (state y.disk) same.settings) same.powers same.crash refl off.power (held_on x y s (begun s) kept refl refl off.holds) refl refl refl off,
+      still_off acts state past x y s (begun s) policy whole (ap length same.seen) (same_quota (state x.disk) (state y.disk) same.settings) same.powers same.crash refl off.power (held_on x y s (begun s) kept refl refl off.holds) refl refl refl off,
     );
   }
 
   -- a disk that is told where a commit is wanted
-  pub aimed_off : (n : ℕ) (past : Past) (s : State) (x y : Cut D A) → y.policy ≡ x.policy → y.actor ≡ x.actor → IsUnchanged (aimed_at n (state x.disk)) (state y.disk) → IsOff acts state past x s → IsOff acts state past y s
-  aimed_off n past s x y policy kept same off =
-      still_off acts state past x y s s policy (ap length same.seen) (λ i. (same.settings i).quota) same.powers same.crash refl off.power (held_on x y s s kept refl refl off.holds) refl refl refl off
+  pub aimed_off : (n : ℕ) (past : Past) (s : State) (x y : Cut D A) → y.policy ≡ x.policy → y.whole ≡ x.whole → y.actor ≡ x.actor → IsUnchanged (aimed_at n (state x.disk)) (state y.disk) → IsOff acts state past x s → IsOff acts state past y s
+  aimed_off n past s x y policy whole kept same off =
+      still_off acts state past x y s s policy whole (ap length same.seen) (λ i. (same.settings i).quota) same.powers same.crash refl off.power (held_on x y s s kept refl refl off.holds) refl refl refl off
 
   -- one more power cut leaves the point
-  off_again : (past : Past) (choice : Choice) (x y : Cut D A) (s : State) → y.policy ≡ x.policy → y.actor ≡ x.actor → (state x.disk).may_leave (state y.disk).seen → Only (state y.disk).seen (state y.disk) → Powers choice (state x.disk) (state y.disk)
+  off_again : (past : Past) (choice : Choice) (x y : Cut D A) (s : State) → y.policy ≡ x.policy → y.whole ≡ x.whole → y.actor ≡ x.actor → (state x.disk).may_leave (state y.disk).seen → Only (state y.disk).seen (state y.disk) → Powers choice (state x.disk) (state y.disk)
       → IsOff acts state past x s → IsOff acts state (left_by (state y.disk)) y (crashed (begun s))
-  off_again past choice x y s policy kept left only powers off =
+  off_again past choice x y s policy whole kept left only powers off =
       let at : IsOfEpoch s off.point (state y.disk).seen = off.lasts (state y.disk).seen left in
       record {
         mode = off.mode;
@@ -105,6 +106,7 @@ module _ {D A : Type 0} (answers : Answering A) (acts : Acts A) (actor : IsActor
         disk = disk_cut past choice (state x.disk) (state y.disk) s.filter.volume powers off.disk;
         point = off.point;
         opens = off.opens;
+        newest = λ so. off.newest (sym whole ∙ so);
         kept = off.kept;
         lasts = λ c may. let h = off.lasts c (subst (λ (i : List ℕ). (state x.disk).may_leave i) (sym (only c may)) left) in record { taken = h.taken; few = h.few; stands = h.stands };
         image = (state y.disk).seen;
@@ -112,9 +114,9 @@ module _ {D A : Type 0} (answers : Answering A) (acts : Acts A) (actor : IsActor
         left = (s.filter.volume.epoch + at.taken, at.stands);
       }
 
-  pub off_crash : (choice : Choice) (x y : Cut D A) → y.policy ≡ x.policy → y.actor ≡ x.actor → (state x.disk).may_leave (state y.disk).seen → Only (state y.disk).seen (state y.disk) → Powers choice (state x.disk) (state y.disk)
+  pub off_crash : (choice : Choice) (x y : Cut D A) → y.policy ≡ x.policy → y.whole ≡ x.whole → y.actor ≡ x.actor → (state x.disk).may_leave (state y.disk).seen → Only (state y.disk).seen (state y.disk) → Powers choice (state x.disk) (state y.disk)
       → StepsOver acts.mode (IsOff acts state) (event.Device (device.Crash choice)) x (Ok (answer_with shown.Done [])) y
-  off_crash choice x y policy kept left only powers = record {
+  off_crash choice x y policy whole kept left only powers = record {
     leads = λ past s off. (
       crashed (begun s),
       (choice, (state y.disk).seen) ∷ [],
@@ -122,6 +124,6 @@ module _ {D A : Type 0} (answers : Answering A) (acts : Acts A) (actor : IsActor
       ended_step acts.mode s (event.Device (device.Crash choice)) shown.Done (crashed (begun s)) (device_of acts.mode (device.Crash choice)) refl (refl, refl),
       (refl, refl, refl),
       one_gained past choice (state x.disk) (state y.disk) off.disk.powers powers,
-      off_again past choice x y s policy kept left only powers off,
+      off_again past choice x y s policy whole kept left only powers off,
     );
   }

@@ -1,9 +1,9 @@
 -- Events of the device while the volume is open.
-use Rattle.std.proofs.Common.{◌≡◌, ℕ, ◌+◌, length, take, Bool, true, false, List, [], refl, sym, ap, subst, ◌∙◌, arith}
-use Rattle.std.specs.Prelude.{Ok, Option, Some, ◌∷◌}
+use Rattle.std.proofs.Common.{◌≡◌, ℕ, ◌+◌, length, take, Bool, true, false, List, [], refl, sym, ap, subst, ◌∙◌, arith, inl}
+use Rattle.std.specs.Prelude.{Ok, Option, Some, ◌∷◌, not}
 use Rattle.cf_filter_events.specs.Answered.{answer_with}
 use Rattle.cf_filter_events.specs.Actors.{Acts, IsActor, hushed}
-use Rattle.cf_filter_events.specs.Meaning.{Is, IsOff, IsOn, IsDiskOf, OnBy}
+use Rattle.cf_filter_events.specs.Meaning.{Is, IsNewest, IsOff, IsOn, IsDiskOf, OnBy}
 use Rattle.cf_filter_events.specs.declared.places.Running.{Running as Run}
 use Rattle.cf_filter_events.specs.Pasts.{Gains, Past, StandsFor}
 use Rattle.cf_filter_events.specs.Stepped.{Steps, StepsOver}
@@ -28,8 +28,10 @@ use Rattle.cf_model.proofs.TraceLaws.{ended_step}
 use Rattle.cf_model.specs.Events.{begun, tree_of}
 use Rattle.cf_model.specs.Powers.{IsPower}
 use Rattle.cf_model.specs.Restarts.{crashed}
-use Rattle.cf_model.specs.State.{Broken, Filter, On, Power, State, Volume}
+use Rattle.cf_model.specs.State.{Broken, Filter, On, Point, Power, State, Volume}
 use Rattle.cf_model.specs.Trees.{Ends}
+use Rattle.cf_model.specs.Points.{Opens}
+use Rattle.cf_volume_points.proofs.Points.{kept_stands}
 use Rattle.cf_volume_points.specs.Known.{Known}
 use Rattle.cf_volume_points.specs.Standing.{Standing}
 
@@ -112,10 +114,9 @@ module _ {D A : Type 0} (answers : Answering A) (acts : Acts A) (actor : IsActor
       by s false h = (h.0, actor.stands_on p s (begun s) (record { plan = refl; link = refl; volatile = refl; tokens = refl }) h.1, stands (hushed s.filter) h.2)
 
   -- what the power cut leaves stands for a point
-  pub cut_off : (past : Past) (x : D) (y : Cut D A) (choice : Choice) (s : State) → s.mode ≡ acts.mode → acts.holds y.actor s → IsDiskOf past (state x) s.filter.volume → y.policy ≡ s.filter.policy → Lasts (state x) s.filter.volume
-      → (state x).may_leave (state y.disk).seen → Only (state y.disk).seen (state y.disk) → Powers choice (state x) (state y.disk) → IsOff acts state (left_by (state y.disk)) y (crashed (begun s))
-  cut_off past x y choice s mode holds disk policy lasts left only powers =
-      let at : IsOfPoint s.filter.volume (state y.disk).seen = lasts (state y.disk).seen left in
+  pub cut_off : (past : Past) (x : D) (y : Cut D A) (choice : Choice) (s : State) → s.mode ≡ acts.mode → acts.holds y.actor s → IsDiskOf past (state x) s.filter.volume → y.policy ≡ s.filter.policy → (at : IsOfPoint s.filter.volume (state y.disk).seen)
+      → (y.whole ≡ true → IsNewest at.point s.filter.volume.points) → Only (state y.disk).seen (state y.disk) → Powers choice (state x) (state y.disk) → IsOff acts state (left_by (state y.disk)) y (crashed (begun s))
+  cut_off past x y choice s mode holds disk policy at newest only powers =
       record {
         mode = mode;
         power = refl;
@@ -124,6 +125,7 @@ module _ {D A : Type 0} (answers : Answering A) (acts : Acts A) (actor : IsActor
         disk = disk_cut past choice (state x) (state y.disk) s.filter.volume powers disk;
         point = at.point;
         opens = at.opens;
+        newest = newest;
         kept = at.kept;
         lasts = λ c may. record {
           taken = 0;
@@ -135,9 +137,9 @@ module _ {D A : Type 0} (answers : Answering A) (acts : Acts A) (actor : IsActor
         left = (s.filter.volume.epoch, at.stands);
       }
 
-  pub cut_step : (choice : Choice) (x : Run D A) (y : Cut D A) → y.policy ≡ x.filter.desk.policy → y.actor ≡ x.actor → (state x.filter.disk).may_leave (state y.disk).seen → Only (state y.disk).seen (state y.disk) → Powers choice (state x.filter.disk) (state y.disk)
+  pub cut_step : (choice : Choice) (x : Run D A) (y : Cut D A) → y.policy ≡ x.filter.desk.policy → y.actor ≡ x.actor → y.whole ≡ not x.filter.desk.broken → (state x.filter.disk).may_leave (state y.disk).seen → Only (state y.disk).seen (state y.disk) → Powers choice (state x.filter.disk) (state y.disk)
       → StepsOver acts.mode (Is acts state) (event.Device (device.Crash choice)) (acting.On x) (Ok (answer_with shown.Done [])) (acting.Off y)
-  cut_step choice x y policy kept left only powers = record {
+  cut_step choice x y policy kept whole left only powers = record {
     leads = λ past s on. (
       crashed (begun s),
       (choice, (state y.disk).seen) ∷ [],
@@ -145,12 +147,22 @@ module _ {D A : Type 0} (answers : Answering A) (acts : Acts A) (actor : IsActor
       ended_step acts.mode s (event.Device (device.Crash choice)) shown.Done (crashed (begun s)) (device_of acts.mode (device.Crash choice)) refl (refl, refl),
       (refl, refl, refl),
       one_gained past choice (state x.filter.disk) (state y.disk) on.disk.powers powers,
-      by past s on x.filter.desk.broken on.is,
+      by past s on x.filter.desk.broken whole on.is,
     );
   }
     where
-      by : (past : Past) (s : State) → IsOn acts state past x s → (b : Bool) → OnBy acts state b x s → IsOff acts state (left_by (state y.disk)) y (crashed (begun s))
-      by past s on true h = cut_off past x.filter.disk y choice s on.mode (subst (λ (p : A). acts.holds p s) (sym kept) h.1) on.disk (policy ∙ h.2) h.3 left only powers
-      by past s on false h =
+      by : (past : Past) (s : State) → IsOn acts state past x s → (b : Bool) → y.whole ≡ not b → OnBy acts state b x s → IsOff acts state (left_by (state y.disk)) y (crashed (begun s))
+      by past s on true is h =
+          cut_off past x.filter.disk y choice s on.mode (subst (λ (p : A). acts.holds p s) (sym kept) h.1) on.disk (policy ∙ h.2) (h.3 (state y.disk).seen left)
+          (λ so. let z : false ≡ true = sym is ∙ so in absurd cc) only powers
+      by past s on false is h =
           let holds = actor.stands_held x.actor s h.1 in
-          cut_off past x.filter.disk y choice s on.mode (subst (λ (p : A). acts.holds p s) (sym kept) holds) on.disk (policy ∙ ap (λ (d : Desk). d.policy) h.2.desk) ((sense state).endures x.filter (hushed s.filter) h.2) left only powers
+          let last = h.2.volume.last in
+          let opens : Opens s.filter.volume.points last.point = subst (λ (l : List Point). Opens l last.point) (sym last.points_are) (inl refl) in
+          cut_off past x.filter.disk y choice s on.mode (subst (λ (p : A). acts.holds p s) (sym kept) holds) on.disk (policy ∙ ap (λ (d : Desk). d.policy) h.2.desk)
+          (record {
+            point = last.point;
+            opens = opens;
+            stands = kept_stands (state x.filter.disk) x.filter.known.journal x.filter.known.uses s.filter.volume.epoch (take last.point.count s.filter.volume.log) last.point.book h.2.fair last.kept (state y.disk).seen left;
+            kept = h.2.points last.point opens;
+          }) (λ so. (last.earlier, last.points_are)) only powers

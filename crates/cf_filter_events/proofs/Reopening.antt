@@ -7,7 +7,7 @@ use Rattle.cf_filter_events.specs.Actors.{Acts, IsActor, Reopens}
 use Rattle.cf_filter_events.specs.Answered.{answer_with, answered_by}
 use Rattle.cf_filter_events.specs.Meaning.{Is, IsOff, IsOfEpoch, IsOn, OnBy}
 use Rattle.cf_filter_events.specs.Pasts.{Past, StandsFor}
-use Rattle.cf_filter_events.specs.Stepped.{PoweredTo, StepsOver, actor_of}
+use Rattle.cf_filter_events.specs.Stepped.{OpensNewest, PoweredTo, ResumesNewest, StepsOver, actor_of}
 use Rattle.cf_filter_events.specs.declared.places.Acting.{Acting}
 use Rattle.cf_filter_events.specs.declared.places.Acting.TheVariants as acting
 use Rattle.cf_filter_events.specs.declared.places.Cut.{Cut}
@@ -138,6 +138,10 @@ opened_is p k clusters v early same =
 opens_left : (last : Option (List ℕ)) (image : List ℕ) (t : State) → last ≡ Some image → StandsFor image t.filter.volume.log t.filter.volume.book → OpensLast StandsFor last t
 opens_left last image t is left = subst (λ (o : Option (List ℕ)). OpensLast StandsFor o t) (sym is) left
 
+-- the latest of points
+same_newest : (p q : Point) (ps qs : List Point) → p ∷ ps ≡ q ∷ qs → p.count ≡ q.count
+same_newest p q ps qs e = let same : p ≡ q = cc in ap (λ (x : Point). x.count) same
+
 module _ {D A : Type 0} (answers : Answering A) (acts : Acts A) (actor : IsActor answers acts) (state : D → Disk) where
   -- what the disk reads as
   pub found : (past : Past) (x : Cut D A) (s : State) (off : IsOff acts state past x s) → (state x.disk).may_leave (state x.disk).seen → IsOfEpoch s off.point (state x.disk).seen
@@ -183,10 +187,10 @@ module _ {D A : Type 0} (answers : Answering A) (acts : Acts A) (actor : IsActor
       )
 
   -- Device: the volume stays off, and the epoch may be taken.
-  pub failed_to : (past : Past) (x y : Cut D A) (s : State) (off : IsOff acts state past x s) (k : ℕ) → k ≤ s.failed_opens → y.policy ≡ x.policy → y.actor ≡ x.actor → Runs (state x.disk) (state y.disk)
+  pub failed_to : (past : Past) (x y : Cut D A) (s : State) (off : IsOff acts state past x s) (k : ℕ) → k ≤ s.failed_opens → y.policy ≡ x.policy → y.whole ≡ x.whole → y.actor ≡ x.actor → Runs (state x.disk) (state y.disk)
       → Leaves (state x.disk) (state y.disk) (StandsOrWas (s.filter.volume.epoch + k) (take off.point.count s.filter.volume.log) off.point.book (state x.disk))
       → PoweredTo acts.mode (IsOff acts state) past (event.Device device.Restart) s (Ok (answer_with (shown.Refused code.Device) [])) y
-  failed_to past x y s off k few policy kept runs leaves =
+  failed_to past x y s off k few policy whole kept runs leaves =
       let t : State = broken (failed_open (begun s)) in (
         t,
         [],
@@ -206,6 +210,7 @@ module _ {D A : Type 0} (answers : Answering A) (acts : Acts A) (actor : IsActor
           };
           point = off.point;
           opens = off.opens;
+          newest = λ so. off.newest (sym whole ∙ so);
           kept = off.kept;
           lasts = λ c may. by c (leaves.now c may);
           image = off.image;
@@ -247,29 +252,48 @@ module _ {D A : Type 0} (answers : Answering A) (acts : Acts A) (actor : IsActor
         (r.0, r.1, r.2, r.3, r.4, r.5, subst (λ (w : Acting D A). Is acts state r.2 w r.0) (sym is) r.6);
   }
 
+  -- it is the newest point, where no event met Device before
+  pub opened_newest : (x : Cut D A) (y : Held D) (r : Result Answer NoMemory) → (state x.disk).may_leave (state x.disk).seen
+      → ((epoch : ℕ) (log : List (Usn × Change)) (b : Book) → Standing epoch (state x.disk).seen log b → IsKeptVolume (opened (epoch + 1) log b 0) → Stands state y (new_filter (opened (epoch + 1) log b (clusters_for (state x.disk))) x.policy))
+      → IfOk r (λ a. (f : Filter) → Stands state y f → a ≡ answer_with (shown.Resumed (length f.volume.log) (opened_of f.volume.book)) []) → OpensNewest (Is acts state) (event.Device device.Restart) (acting.Off x) r
+  opened_newest x y (Err m) reads ok told = record { newest = λ past s off is whole. record {} }
+  opened_newest x y (Ok a) reads ok told = record {
+    newest = λ past s off is whole.
+        let at = found past x s off reads in
+        let log : List (Usn × Change) = take off.point.count s.filter.volume.log in
+        let here = ok (s.filter.volume.epoch + at.taken) log off.point.book at.stands (found_kept past x s off at.taken) in
+        let count : length log ≡ off.point.count = length-take off.point.count s.filter.volume.log ∙ (let m : min off.point.count (length s.filter.volume.log) ≡ off.point.count = omega (arith, off.kept.early) in m) in
+        let w = off.newest whole in
+        subst (λ (b : Answer). ResumesNewest b.shown s.filter.volume.points) (sym (told _ here)) (λ p earlier e. count ∙ same_newest off.point p w.0 earlier (sym w.1 ∙ e));
+  }
+
   -- a restart that opened nothing
-  pub failed_step : (x y : Cut D A) (e : CallError) → (state x.disk).may_leave (state x.disk).seen → y.policy ≡ x.policy → y.actor ≡ x.actor → Runs (state x.disk) (state y.disk)
+  pub failed_newest : (x : Cut D A) (e : CallError) → OpensNewest (Is acts state) (event.Device device.Restart) (acting.Off x) (answered_by (Err e) [])
+  failed_newest x OutOfMemory = record { newest = λ past s off is whole. record {} }
+  failed_newest x (No c) = record { newest = λ past s off is whole. record {} }
+
+  pub failed_step : (x y : Cut D A) (e : CallError) → (state x.disk).may_leave (state x.disk).seen → y.policy ≡ x.policy → y.whole ≡ x.whole → y.actor ≡ x.actor → Runs (state x.disk) (state y.disk)
       → ((epoch : ℕ) (log : List (Usn × Change)) (b : Book) → Standing epoch (state x.disk).seen log b → Leaves (state x.disk) (state y.disk) (StandsOrWas epoch log b (state x.disk)))
       → StopsOnly e ⊎ (IsRefused e code.NotAVolume ⊎ IsRefused e code.Exhausted)
       → ((epoch : ℕ) (log : List (Usn × Change)) (b : Book) → Standing epoch (state x.disk).seen log b → IsRefused e code.NotAVolume → ⊥)
       → ((epoch : ℕ) (log : List (Usn × Change)) (b : Book) → Standing epoch (state x.disk).seen log b → IsRefused e code.Exhausted → epoch ≡ most)
       → (IsRefused e code.NotAVolume ⊎ IsRefused e code.Exhausted → ReadsOnly (state x.disk) (state y.disk))
       → StepsOver acts.mode (Is acts state) (event.Device device.Restart) (acting.Off x) (answered_by (Err e) []) (acting.Off y)
-  failed_step x y OutOfMemory reads policy kept runs leaves only none last unwritten = record { leads = λ past s off. record {} }
-  failed_step x y (No c) reads policy kept runs leaves (inl stopped) none last unwritten = record {
+  failed_step x y OutOfMemory reads policy whole kept runs leaves only none last unwritten = record { leads = λ past s off. record {} }
+  failed_step x y (No c) reads policy whole kept runs leaves (inl stopped) none last unwritten = record {
     leads = λ past s off.
         let at = found past x s off reads in
-        let r = failed_to past x y s off at.taken at.few policy kept runs (leaves (s.filter.volume.epoch + at.taken) (take off.point.count s.filter.volume.log) off.point.book at.stands) in
+        let r = failed_to past x y s off at.taken at.few policy whole kept runs (leaves (s.filter.volume.epoch + at.taken) (take off.point.count s.filter.volume.log) off.point.book at.stands) in
         subst (λ (k : Code). PoweredTo acts.mode (Is acts state) past (event.Device device.Restart) s (Ok (answer_with (shown.Refused k) [])) (acting.Off y)) (sym stopped) r;
   }
-  failed_step x y (No c) reads policy kept runs leaves (inr (inl absent)) none last unwritten = record {
+  failed_step x y (No c) reads policy whole kept runs leaves (inr (inl absent)) none last unwritten = record {
     leads = λ past s off. let at = found past x s off reads in absurd (none (s.filter.volume.epoch + at.taken) (take off.point.count s.filter.volume.log) off.point.book at.stands absent);
   }
-  failed_step x y (No c) reads policy kept runs leaves (inr (inr spent)) none last unwritten = record {
+  failed_step x y (No c) reads policy whole kept runs leaves (inr (inr spent)) none last unwritten = record {
     leads = λ past s off.
         let at = found past x s off reads in
         let same = unwritten (inr spent) in
-        let after : IsOff acts state past y (begun s) = still_off acts state past x y s (begun s) policy runs.size (same_quota (state x.disk) (state y.disk) runs.settings) runs.powers same.keeps.crash refl off.power (held_on answers acts actor state x y s (begun s) kept refl refl off.holds) refl refl refl off in
+        let after : IsOff acts state past y (begun s) = still_off acts state past x y s (begun s) policy whole runs.size (same_quota (state x.disk) (state y.disk) runs.settings) runs.powers same.keeps.crash refl off.power (held_on answers acts actor state x y s (begun s) kept refl refl off.holds) refl refl refl off in
         let r = exhausted_to past x y s off at.taken at.few (last (s.filter.volume.epoch + at.taken) (take off.point.count s.filter.volume.log) off.point.book at.stands spent) after in
         subst (λ (k : Code). PoweredTo acts.mode (Is acts state) past (event.Device device.Restart) s (Ok (answer_with (shown.Refused k) [])) (acting.Off y)) (sym spent) r;
   }

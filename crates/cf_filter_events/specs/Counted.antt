@@ -24,9 +24,9 @@ abbrev pub meets_device : Shown → Bool
 meets_device (shown.Refused c) = is_device c
 meets_device _ = false
 
--- The count of faults does not fall, and where no call could fail none can fail then.
+-- The count of faults does not fall, where no call could fail none can fail then, and the settings stay.
 abbrev pub GoesOn : Disk → Disk → Type 0
-GoesOn d e = (d.faults ≤ e.faults) × (may_fail e.armed ≤ may_fail d.armed)
+GoesOn d e = (d.faults ≤ e.faults) × (may_fail e.armed ≤ may_fail d.armed) × (e.settings ≡ d.settings)
 
 -- So it is, and a call failed where the event is answered as Device.
 abbrev pub CountsTo : Result Answer NoMemory → Disk → Disk → Type 0
@@ -52,7 +52,7 @@ arms (event.Provider e) = 0
 
 -- As CountsTo, but that calls may fail after a stop.
 abbrev pub CountsBy : ℕ → Result Answer NoMemory → Disk → Disk → Type 0
-CountsBy n (Ok a) d e = (d.faults ≤ e.faults) × (may_fail e.armed ≤ may_fail d.armed + n) × (meets_device a.shown ≡ true → Rose d e)
+CountsBy n (Ok a) d e = (d.faults ≤ e.faults) × (may_fail e.armed ≤ may_fail d.armed + n) × (meets_device a.shown ≡ true → Rose d e) × (e.settings ≡ d.settings)
 CountsBy n (Err m) d e = Unit {0}
 
 -- in each state that the world stands for

@@ -1,5 +1,5 @@
 -- How the world stands for states of the definitions.
-use Rattle.std.specs.Prelude.{◌≡◌, ◌≤◌, ◌+◌, ℕ, Bool, true, false, List, [], Some, take}
+use Rattle.std.specs.Prelude.{◌≡◌, ◌≤◌, ◌+◌, ℕ, Bool, true, false, List, [], ◌∷◌, Some, take}
 use Rattle.cf_filter_events.specs.Actors.{Acts, hushed}
 use Rattle.cf_filter_events.specs.Pasts.{Past, StandsFor}
 use Rattle.cf_filter_events.specs.declared.places.Running.{Running as Run}
@@ -51,8 +51,12 @@ pub record IsOfEpoch (s : State) (p : Point) (image : List ℕ) : Type 0 where
   pub few : taken ≤ s.failed_opens
   pub stands : Standing (s.filter.volume.epoch + taken) image (take p.count s.filter.volume.log) p.book
 
+-- the latest of the points
+abbrev pub IsNewest : Point → List Point → Type 0
+IsNewest p points = (earlier : List Point) × (points ≡ p ∷ earlier)
+
 -- The power was cut: whatever a crash leaves now stands for one point, which a restart may open, and so does the image that
--- the last power cut left.
+-- the last power cut left. Where no event met Device before, it is the newest point.
 pub record IsOff {D A : Type 0} (acts : Acts A) (state : D → Disk) (past : Past) (x : Cut D A) (s : State) : Type 0 where
   pub mode : s.mode ≡ acts.mode
   pub power : s.power ≡ Off
@@ -61,6 +65,7 @@ pub record IsOff {D A : Type 0} (acts : Acts A) (state : D → Disk) (past : Pas
   pub disk : IsDiskOf past (state x.disk) s.filter.volume
   pub point : Point
   pub opens : Opens s.filter.volume.points point
+  pub newest : x.whole ≡ true → IsNewest point s.filter.volume.points
   pub kept : IsKeptPoint s.filter.volume.epoch s.filter.volume.log point
   pub lasts : (c : List ℕ) → (state x.disk).may_leave c → IsOfEpoch s point c
   pub image : List ℕ

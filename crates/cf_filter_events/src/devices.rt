@@ -1,6 +1,6 @@
 //! Events of the device while the volume is open.
 
-ghost use Rattle.std.specs.Prelude.{◌≡◌, Ok, []};
+ghost use Rattle.std.specs.Prelude.{◌≡◌, Ok, [], not};
 ghost use Rattle.cf_filter_events.specs.Counted.{CountsBy};
 ghost use Rattle.cf_filter_events.specs.Meaning.{Is, IsOn};
 ghost use Rattle.cf_filter_events.specs.Stepped.{BearsOn, Steps, StepsOver};
@@ -44,13 +44,16 @@ impl<D: Disk, A: Actor> Running<D, A> {
         ensures steps { StepsOver A.acts.mode (Is A.acts D.state) (event.Device (device.Crash choice)) (acting.On self) (Ok (answer_with shown.Done [])) (acting.Off result) }
         ensures powers { BearsOn (device.Crash choice) (D.state self.filter.disk) (D.state result.disk) }
         ensures actor { result.actor ≡ self.actor }
+        ensures whole { result.whole ≡ not self.filter.desk.broken }
     {
         let policy = self.filter.policy();
+        let whole = !self.filter.is_broken();
         let mut disk = self.filter.into_disk();
         disk.power(choice);
         Cut {
             disk,
             policy,
+            whole,
             actor: self.actor,
         }
     }

@@ -71,6 +71,7 @@ impl<D: Disk, A: Actor> Cut<D, A> {
         ensures steps { Steps A.acts.mode (IsOff A.acts D.state) event.now self.old result self.new }
         ensures counts { CountsTo result (D.state self.old.disk) (D.state self.new.disk) }
         ensures faults { Faults (IsOff A.acts D.state) self.old result (A.acts.remote self.old.actor) (A.acts.remote self.new.actor) }
+        ensures whole { self.new.whole ≡ self.old.whole }
     {
         if needs_volume(event) {
             return Ok(refused(alloc, Code::Off));

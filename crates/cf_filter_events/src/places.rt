@@ -20,6 +20,8 @@ pub struct Running<D: Disk, A> {
 pub struct Cut<D: Disk, A> {
     pub(crate) disk: D,
     pub(crate) policy: Policy,
+    // No event met Device before the power was cut.
+    pub(crate) whole: bool,
     pub(crate) actor: A,
 }
 
@@ -44,12 +46,14 @@ impl<D: Disk, A> Acting<D, A> {
                 Cut {
                     disk,
                     policy,
+                    whole,
                     actor,
                 },
             ) => {
                 let rest = Cut {
                     disk,
                     policy,
+                    whole,
                     actor: (),
                 };
                 (Acting::Off(rest), actor)
@@ -65,9 +69,17 @@ impl<D: Disk> Acting<D, ()> {
     {
         match self {
             Acting::On(Running { filter, .. }) => Acting::On(Running { filter, actor }),
-            Acting::Off(Cut { disk, policy, .. }) => Acting::Off(Cut {
+            Acting::Off(
+                Cut {
+                    disk,
+                    policy,
+                    whole,
+                    ..
+                },
+            ) => Acting::Off(Cut {
                 disk,
                 policy,
+                whole,
                 actor,
             }),
         }

@@ -7,7 +7,7 @@ ghost use Rattle.cf_filter_events.specs.Answered.{answer_with, answered_by};
 ghost use Rattle.cf_filter_events.specs.Counted.{CountsBy, CountsTo, meets_device};
 ghost use Rattle.cf_filter_events.specs.Faulted.{FaultsTo, faults_shown};
 ghost use Rattle.cf_filter_events.specs.Meaning.{Is, IsOff};
-ghost use Rattle.cf_filter_events.specs.Stepped.{BearsOn, Steps, StepsOver, actor_of, disk_of};
+ghost use Rattle.cf_filter_events.specs.Stepped.{BearsOn, OpensNewest, Steps, StepsOver, actor_of, disk_of, whole_of};
 ghost use Rattle.cf_filter_events.specs.declared.places.Acting.TheVariants as acting;
 ghost use Rattle.cf_base.specs.declared.answers.Shown.TheVariants as shown;
 ghost use Rattle.cf_base.specs.declared.events.DeviceEvent.TheVariants as device;
@@ -36,6 +36,7 @@ impl<D: Disk, A: Actor> Cut<D, A> {
         ensures counts { CountsBy 1 (Ok result) (D.state self.old.disk) (D.state self.new.disk) }
         ensures told { result ≡ answer_with shown.Done [] }
         ensures actor { self.new.actor ≡ self.old.actor }
+        ensures whole { self.new.whole ≡ self.old.whole }
     {
         self.disk.arm(calls);
         plainly(alloc, Shown::Done)
@@ -48,6 +49,7 @@ impl<D: Disk, A: Actor> Cut<D, A> {
         ensures counts { CountsTo (Ok result) (D.state self.old.disk) (D.state self.new.disk) }
         ensures told { result ≡ answer_with shown.Done [] }
         ensures actor { self.new.actor ≡ self.old.actor }
+        ensures whole { self.new.whole ≡ self.old.whole }
     {
         self.disk.power(choice);
         plainly(alloc, Shown::Done)
@@ -59,6 +61,8 @@ impl<D: Disk, A: Actor> Cut<D, A> {
         ensures steps { StepsOver A.acts.mode (Is A.acts D.state) (event.Device device.Restart) (acting.Off self) result.1 result.0 }
         ensures counts { CountsTo result.1 (D.state self.disk) (D.state (disk_of result.0)) }
         ensures faults { FaultsTo result.1 (A.acts.remote self.actor) (A.acts.remote (actor_of result.0)) }
+        ensures whole { self.whole ≡ true → whole_of result.0 ≡ true }
+        ensures newest { OpensNewest (Is A.acts D.state) (event.Device device.Restart) (acting.Off self) result.1 }
     {
         if !is_fit(self.disk.size()) {
             return (Acting::Off(self), Ok(refused(alloc, Code::NotAVolume)));
@@ -71,6 +75,8 @@ impl<D: Disk, A: Actor> Cut<D, A> {
         ensures steps { StepsOver A.acts.mode (Is A.acts D.state) (event.Device device.Restart) (acting.Off self) result.1 result.0 }
         ensures counts { CountsTo result.1 (D.state self.disk) (D.state (disk_of result.0)) }
         ensures faults { FaultsTo result.1 (A.acts.remote self.actor) (A.acts.remote (actor_of result.0)) }
+        ensures whole { self.whole ≡ true → whole_of result.0 ≡ true }
+        ensures newest { OpensNewest (Is A.acts D.state) (event.Device device.Restart) (acting.Off self) result.1 }
     {
         let policy = self.policy;
         match Filter::open(alloc, self.disk, policy) {
@@ -79,6 +85,7 @@ impl<D: Disk, A: Actor> Cut<D, A> {
                 let cut = Cut {
                     disk,
                     policy,
+                    whole: self.whole,
                     actor: self.actor,
                 };
                 (Acting::Off(cut), refused_by(alloc, fail))

@@ -1,19 +1,19 @@
 //! The world, on and off.
 #![tactic(auto, using(crate::proofs::Wholes::begins))]
 
-ghost use Rattle.std.specs.Prelude.{◌≡◌, ◌≤◌, ℕ, List, true, IfErr, IfOk};
+ghost use Rattle.std.specs.Prelude.{◌≡◌, ◌≤◌, ℕ, List, Some, true, IfErr, IfOk};
 ghost use Rattle.cf_filter_events.specs.Counted.{CountsBy, CountsOver, GoesOn, arms, arms_in};
 ghost use Rattle.cf_filter_events.specs.Faulted.{Faults, FaultsTo};
 ghost use Rattle.cf_filter_events.specs.Meaning.{Is};
 ghost use Rattle.cf_filter_events.specs.Pasts.{Past, StandsFor};
-ghost use Rattle.cf_filter_events.specs.Stepped.{Bears, BearsOn, StepsOver, actor_of, disk_of};
+ghost use Rattle.cf_filter_events.specs.Stepped.{Bears, BearsOn, KeepsWhole, OpensNewest, StepsOver, actor_of, disk_of, whole_of};
 ghost use Rattle.cf_filter_events.specs.declared.places.Acting.TheVariants as acting;
 ghost use Rattle.cf_base.specs.declared.events.Event.TheVariants as events;
 ghost use Rattle.cf_disk.specs.Disk.{size_of};
 ghost use Rattle.cf_journal.specs.Settled.{IsFitSize};
 ghost use Rattle.cf_model.specs.Events.{is_of};
 ghost use Rattle.cf_model.specs.Powers.{StandsNow};
-ghost use Rattle.cf_model.specs.State.{State, first_policy, start};
+ghost use Rattle.cf_model.specs.State.{Off, On, State, first_policy, start};
 ghost use Rattle.cf_model.specs.Store.{Held};
 ghost use Rattle.cf_volume_points.specs.Standing.{clusters_for};
 ghost use Rattle.cf_volume.specs.Calls.{IsCause, StopsOnly};
@@ -62,7 +62,8 @@ impl<D: Disk, A: Actor> Acting<D, A> {
     /// Does an event of the mode, and answers it. A stop arms the disk with its number, a crash is one power cut of the disk with
     /// its choice, and no other event changes the power cuts that the disk reports. A restart that resumes opens what the image of
     /// the last power cut stands for. The disk's count of faults does not fall. In an event that is answered as Device a call of the
-    /// disk failed: the count rose, and a number was armed, where the disk reports that. Only a stop arms a number.
+    /// disk failed: the count rose, and a number was armed, where the disk reports that. Only a stop arms a number, and the settings of the
+    /// disk stay. Where no event met Device since the volume was opened, a restart that resumes opens the newest point.
     /// Where memory runs out an event is not answered, and nothing more is said of the world.
     pub fn step(self, alloc: Global, event: &Event) -> (Acting<D, A>, Result<Answer, OutOfMemory>)
         requires { is_of A.acts.mode event.now ≡ true }
@@ -70,6 +71,8 @@ impl<D: Disk, A: Actor> Acting<D, A> {
         ensures device { Bears event.now (D.state (disk_of self)) (D.state (disk_of result.0)) }
         ensures counts { CountsOver (Is A.acts D.state) event.now self result.1 (D.state (disk_of self)) (D.state (disk_of result.0)) }
         ensures faults { Faults (Is A.acts D.state) self result.1 (A.acts.remote (actor_of self)) (A.acts.remote (actor_of result.0)) }
+        ensures whole { KeepsWhole (Is A.acts D.state) self result.0 }
+        ensures newest { OpensNewest (Is A.acts D.state) event.now self result.1 }
     {
         match self {
             Acting::On(running) => step_on(alloc, running, event),
@@ -79,7 +82,11 @@ impl<D: Disk, A: Actor> Acting<D, A> {
 
     /// Tells the disk of a volume that is off that a commit is wanted once so many changes are made. While a volume is on it does nothing.
     pub fn aim(&mut self, changes: u64)
-        ensures { (past : Past) (s : State) → Is A.acts D.state past self.old s → Is A.acts D.state past self.new s }
+        ensures is { (past : Past) (s : State) → Is A.acts D.state past self.old s → Is A.acts D.state past self.new s }
+        ensures aimed { (past : Past) (s : State) → Is A.acts D.state past self.old s → s.power ≡ Off → (D.state (disk_of self.new)).settings.aim ≡ Some changes }
+        ensures on { (past : Past) (s : State) → Is A.acts D.state past self.old s → s.power ≡ On → disk_of self.new ≡ disk_of self.old }
+        ensures whole { whole_of self.new ≡ whole_of self.old }
+        ensures actor { actor_of self.new ≡ actor_of self.old }
     {
         match self {
             Acting::On(_running) => {}
@@ -114,6 +121,8 @@ fn step_on<D: Disk, A: Actor>(
     ensures device { Bears event.now (D.state running.filter.disk) (D.state (disk_of result.0)) }
     ensures counts { CountsOver (Is A.acts D.state) event.now (acting.On running) result.1 (D.state running.filter.disk) (D.state (disk_of result.0)) }
     ensures faults { Faults (Is A.acts D.state) (acting.On running) result.1 (A.acts.remote running.actor) (A.acts.remote (actor_of result.0)) }
+    ensures whole { KeepsWhole (Is A.acts D.state) (acting.On running) result.0 }
+    ensures newest { OpensNewest (Is A.acts D.state) event.now (acting.On running) result.1 }
 {
     match event {
         Event::Device(device) => device_on(alloc, running, *device),
@@ -133,6 +142,8 @@ fn device_on<D: Disk, A: Actor>(
     ensures device { BearsOn event (D.state running.filter.disk) (D.state (disk_of result.0)) }
     ensures counts { CountsBy (arms_in event) result.1 (D.state running.filter.disk) (D.state (disk_of result.0)) }
     ensures faults { FaultsTo result.1 (A.acts.remote running.actor) (A.acts.remote (actor_of result.0)) }
+    ensures whole { KeepsWhole (Is A.acts D.state) (acting.On running) result.0 }
+    ensures newest { OpensNewest (Is A.acts D.state) (events.Device event) (acting.On running) result.1 }
 {
     match event {
         DeviceEvent::Stop { calls } => {
@@ -161,6 +172,8 @@ fn step_off<D: Disk, A: Actor>(
     ensures device { Bears event.now (D.state cut.disk) (D.state (disk_of result.0)) }
     ensures counts { CountsBy (arms event.now) result.1 (D.state cut.disk) (D.state (disk_of result.0)) }
     ensures faults { Faults (Is A.acts D.state) (acting.Off cut) result.1 (A.acts.remote cut.actor) (A.acts.remote (actor_of result.0)) }
+    ensures whole { cut.whole ≡ true → whole_of result.0 ≡ true }
+    ensures newest { OpensNewest (Is A.acts D.state) event.now (acting.Off cut) result.1 }
 {
     match event {
         Event::Device(device) => device_off(alloc, cut, *device),
@@ -180,6 +193,8 @@ fn device_off<D: Disk, A: Actor>(
     ensures device { BearsOn event (D.state cut.disk) (D.state (disk_of result.0)) }
     ensures counts { CountsBy (arms_in event) result.1 (D.state cut.disk) (D.state (disk_of result.0)) }
     ensures faults { FaultsTo result.1 (A.acts.remote cut.actor) (A.acts.remote (actor_of result.0)) }
+    ensures whole { cut.whole ≡ true → whole_of result.0 ≡ true }
+    ensures newest { OpensNewest (Is A.acts D.state) (events.Device event) (acting.Off cut) result.1 }
 {
     match event {
         DeviceEvent::Stop { calls } => {

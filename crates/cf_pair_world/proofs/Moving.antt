@@ -36,7 +36,7 @@ module _ {D A B : Type 0} (acts : Acts A) (bcts : Acts B) (state : D → Disk) (
   of_epoch : (p : Point) (image : List ℕ) → IsOfEpoch s p image → IsOfEpoch (with_link l s) p image
   of_epoch p image h = record { taken = h.taken; few = h.few; stands = h.stands }
 
-  off_moved : (x : Cut D A) → (acts.holds x.actor s → bcts.holds y (with_link l s)) → IsOff acts state past x s → IsOff bcts state past (record { disk = x.disk; policy = x.policy; actor = y }) (with_link l s)
+  off_moved : (x : Cut D A) → (acts.holds x.actor s → bcts.holds y (with_link l s)) → IsOff acts state past x s → IsOff bcts state past (record { disk = x.disk; policy = x.policy; whole = x.whole; actor = y }) (with_link l s)
   off_moved x holds h = record {
     mode = h.mode ∙ sym same;
     power = h.power;
@@ -45,6 +45,7 @@ module _ {D A B : Type 0} (acts : Acts A) (bcts : Acts B) (state : D → Disk) (
     disk = h.disk;
     point = h.point;
     opens = h.opens;
+    newest = h.newest;
     kept = h.kept;
     lasts = λ c may. of_epoch h.point c (h.lasts c may);
     image = h.image;

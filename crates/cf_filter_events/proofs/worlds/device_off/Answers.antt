@@ -1,8 +1,8 @@
-use Rattle.std.proofs.Common.{ap, refl}
+use Rattle.std.proofs.Common.{◌∙◌, ap, refl}
 use Rattle.std.specs.Prelude.{Ok}
 use Rattle.cf_filter_events.specs.Stepped.{disk_of}
 use Rattle.cf_filter_events.proofs.EventFaults.{shown_faults}
-use Rattle.cf_filter_events.proofs.Wholes.{off_over, off_steps}
+use Rattle.cf_filter_events.proofs.Wholes.{crash_is_none, off_over, off_steps, opens_none, stop_is_none}
 use Rattle.cf_filter_events.proofs.Counted.{counts_by}
 use Rattle.cf_filter_events.proofs.worlds.device_off.Goals as goal
 
@@ -41,3 +41,21 @@ returns-in-Crash-clause-faults g c = shown_faults _ _ _ _ c.cut-told.ensures.tol
 
 pub returns-in-Restart-clause-faults : goal.returns-in-Restart-clause-faults
 returns-in-Restart-clause-faults g c = c.restart.ensures.faults
+
+pub returns-in-Stop-clause-whole : goal.returns-in-Stop-clause-whole
+returns-in-Stop-clause-whole g c = λ whole. c.stop-told.ensures.whole ∙ whole
+
+pub returns-in-Crash-clause-whole : goal.returns-in-Crash-clause-whole
+returns-in-Crash-clause-whole g c = λ whole. c.cut-told.ensures.whole ∙ whole
+
+pub returns-in-Restart-clause-whole : goal.returns-in-Restart-clause-whole
+returns-in-Restart-clause-whole g c = c.restart.ensures.whole
+
+pub returns-in-Stop-clause-newest : goal.returns-in-Stop-clause-newest
+returns-in-Stop-clause-newest g c = rw c.in-Stop.is (opens_none g.A.Actor.acts g.D.Disk.state _ _ _ (stop_is_none _))
+
+pub returns-in-Crash-clause-newest : goal.returns-in-Crash-clause-newest
+returns-in-Crash-clause-newest g c = rw c.in-Crash.is (opens_none g.A.Actor.acts g.D.Disk.state _ _ _ (crash_is_none _))
+
+pub returns-in-Restart-clause-newest : goal.returns-in-Restart-clause-newest
+returns-in-Restart-clause-newest g c = rw c.in-Restart.is c.restart.ensures.newest

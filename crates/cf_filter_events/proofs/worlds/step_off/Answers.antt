@@ -1,7 +1,7 @@
-use Rattle.std.proofs.Common.{◌≡◌, false, rules}
+use Rattle.std.proofs.Common.{◌≡◌, ◌∙◌, false, rules}
 use Rattle.cf_filter_events.specs.Actors.{is_device_event}
 use Rattle.cf_filter_events.proofs.EventFaults.{faults_always, faults_off}
-use Rattle.cf_filter_events.proofs.Wholes.{bears_none, none_done, off_steps}
+use Rattle.cf_filter_events.proofs.Wholes.{bears_none, no_restart, none_done, off_steps, opens_none}
 use Rattle.cf_filter_events.proofs.Counted.{counts_by}
 use Rattle.cf_filter_events.proofs.worlds.step_off.Goals as goal
 
@@ -25,4 +25,12 @@ returns-in_default g c =
       device = bears_none _ (g.D.Disk.state c.args.cut.disk) (g.D.Disk.state c.act-told.new.self.disk) other;
       counts = counts_by _ _ _ _ c.act-told.ensures.counts;
       faults = faults_off g.A.Actor.acts g.D.Disk.state _ _ _ _ c.act-told.ensures.faults;
+      whole = λ whole. c.act-told.ensures.whole ∙ whole;
+      newest = opens_none g.A.Actor.acts g.D.Disk.state _ _ _ (no_restart _ other);
     }
+
+pub returns-in-Device-clause-whole : goal.returns-in-Device-clause-whole
+returns-in-Device-clause-whole g c = c.device_off.ensures.whole
+
+pub returns-in-Device-clause-newest : goal.returns-in-Device-clause-newest
+returns-in-Device-clause-newest g c = rw c.in-Device.is c.device_off.ensures.newest

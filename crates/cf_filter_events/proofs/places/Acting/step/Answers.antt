@@ -21,3 +21,15 @@ returns-in-On-clause-faults g c = rw c.in-On.is c.step_on.ensures.faults
 
 pub returns-in-Off-clause-faults : goal.returns-in-Off-clause-faults
 returns-in-Off-clause-faults g c = rw c.in-Off.is c.step_off.ensures.faults
+
+pub returns-in-On-clause-whole : goal.returns-in-On-clause-whole
+returns-in-On-clause-whole g c = rw c.in-On.is c.step_on.ensures.whole
+
+pub returns-in-Off-clause-whole : goal.returns-in-Off-clause-whole
+returns-in-Off-clause-whole g c = rw c.in-Off.is (record { whole = λ past s off power whole. c.step_off.ensures.whole whole })
+
+pub returns-in-On-clause-newest : goal.returns-in-On-clause-newest
+returns-in-On-clause-newest g c = rw c.in-On.is c.step_on.ensures.newest
+
+pub returns-in-Off-clause-newest : goal.returns-in-Off-clause-newest
+returns-in-Off-clause-newest g c = rw c.in-Off.is c.step_off.ensures.newest

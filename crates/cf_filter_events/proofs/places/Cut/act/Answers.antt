@@ -12,7 +12,7 @@ returns-then-needs_volume-clause-counts g c = let disk = g.D.Disk.state c.args.s
 
 pub returns-clause-steps : goal.returns-clause-steps
 returns-clause-steps g c =
-    off_beside g.A.Actor.acts g.D.Disk.state c.args.event.now c.args.self.now (record { disk = c.args.self.now.disk; policy = c.args.self.now.policy; actor = c.beside-told.new.self }) _ _ refl refl c.beside-told.ensures c.known.ensures
+    off_beside g.A.Actor.acts g.D.Disk.state c.args.event.now c.args.self.now (record { disk = c.args.self.now.disk; policy = c.args.self.now.policy; whole = c.args.self.now.whole; actor = c.beside-told.new.self }) _ _ refl refl refl c.beside-told.ensures c.known.ensures
 
 pub returns-clause-counts : goal.returns-clause-counts
 returns-clause-counts g c = known_same _ _ (g.D.Disk.state c.args.self.now.disk) c.known.ensures

@@ -1,4 +1,7 @@
 use Rattle.std.proofs.Common.{refl, subst}
+use Rattle.cf_base.specs.declared.codes.CallError.TheVariants.{No}
+use Rattle.cf_base.specs.declared.codes.Code.TheVariants.{NotAVolume}
+use Rattle.cf_filter_events.proofs.Reopening.{failed_newest}
 use Rattle.cf_filter_events.proofs.EventFaults.{shown_faults}
 use Rattle.cf_journal.specs.Settled.{IsFitSize}
 use Rattle.cf_filter_events.proofs.places.Cut.restart.Goals as goal
@@ -8,3 +11,6 @@ reopen-requires g c = subst IsFitSize c.size.ensures (c.is_fit.ensures.fit c.if-
 
 pub returns-then-not-is_fit-clause-faults : goal.returns-then-not-is_fit-clause-faults
 returns-then-not-is_fit-clause-faults g c = let n = g.A.Actor.acts.remote c.args.self.actor in shown_faults _ _ n n c.refused.ensures refl refl
+
+pub returns-then-not-is_fit-clause-newest : goal.returns-then-not-is_fit-clause-newest
+returns-then-not-is_fit-clause-newest g c = rw c.refused.ensures (failed_newest g.A.Provider.answers g.A.Actor.acts g.met.A.Actor.actor g.D.Disk.state c.args.self (No NotAVolume))
