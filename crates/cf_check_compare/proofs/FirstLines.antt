@@ -1,13 +1,12 @@
 -- The first line of a text, and the first of its lines that tells a result.
-use Rattle.std.proofs.Common.{◌≡◌, ℕ, zero, suc, ◌+◌, ◌<◌, ◌≤◌, Bool, true, false, List, [], ◌∷◌, ◌++◌, length, take, drop, refl, sym, ap, ◌∙◌, inl, inr, arith, cond, Some, None, ltb-true, ltb-false, append-nil, add-one, subst, ◌-◌, ◌&&◌, min, length-drop, take_all}
-use Rattle.std.specs.Prelude.{◌⊎◌, position, nat_lt, ◌==◌, filter, slice_get, Option}
+use Rattle.std.proofs.Common.{◌≡◌, ℕ, zero, suc, ◌+◌, ◌<◌, ◌≤◌, Bool, true, false, List, [], ◌∷◌, length, take, drop, refl, sym, ap, ◌∙◌, inl, inr, arith, cond, Some, None, ltb-true, ltb-false, append-nil, add-one, subst, ◌-◌, ◌&&◌, min, length-drop, take_all}
+use Rattle.std.specs.Prelude.{◌⊎◌, position, nat_lt, ◌==◌, filter}
 use Rattle.std.specs.Cmp.Lexicographic.{pointwise}
 use Rattle.std.specs.List.{position_or_len}
 use Rattle.std.proofs.lemmas.Bool.{cases_lt}
 use Rattle.std.proofs.lemmas.List.{drop_all, take-append-drop}
 use Rattle.cf_check_compare.specs.Lines.{IsFirstLine}
-use Rattle.cf_check_judge.specs.Judge.{first_result}
-use Rattle.cf_check_model.specs.Reports.{is_result_line, lines_of}
+use Rattle.cf_check_model.specs.Reports.{is_result_line, lines_of, result_lines}
 use Rattle.cf_check_traces.specs.Tests.{begins}
 
 abbrev is_ten : ℕ → Bool
@@ -86,11 +85,11 @@ line_whole text some e = record {
 
 -- results
 
-pub result_here : (text line after : List ℕ) → IsFirstLine text line after → is_result_line line ≡ true → first_result text ≡ Some line
-result_here text line after h is = ap (λ (ls : List (List ℕ)). slice_get (filter is_result_line ls) 0) h.lines ∙ rw is refl
+pub result_here : (text line after : List ℕ) → IsFirstLine text line after → is_result_line line ≡ true → result_lines text ≡ line ∷ result_lines after
+result_here text line after h is = ap (λ (ls : List (List ℕ)). filter is_result_line ls) h.lines ∙ rw is refl
 
-pub result_later : (text line after : List ℕ) → IsFirstLine text line after → is_result_line line ≡ false → first_result text ≡ first_result after
-result_later text line after h is = ap (λ (ls : List (List ℕ)). slice_get (filter is_result_line ls) 0) h.lines ∙ rw is refl
+pub result_later : (text line after : List ℕ) → IsFirstLine text line after → is_result_line line ≡ false → result_lines text ≡ result_lines after
+result_later text line after h is = ap (λ (ls : List (List ℕ)). filter is_result_line ls) h.lines ∙ rw is refl
 
 -- the test of std
 

@@ -8,11 +8,9 @@ mod answers;
 mod comparisons;
 mod events;
 mod lines;
-mod restarts;
 mod told_faults;
 
 pub use comparisons::{Comparison, compare};
 pub use events::{is_foreign, is_restart};
-pub use lines::{after, fails_next};
-pub use restarts::{both_resume, is_resumed};
+pub use lines::{after, begins, fails_next, next_result};
 pub use told_faults::tellings;

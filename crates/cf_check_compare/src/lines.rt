@@ -1,9 +1,10 @@
 //! The lines of a report.
 
-ghost use Rattle.std.specs.Prelude.{◌≡◌, ◌<◌, ◌==◌, Some, drop, length, position};
+ghost use Rattle.std.specs.Prelude.{◌≡◌, ◌<◌, ◌∷◌, ◌==◌, Some, [], drop, length, position};
+ghost use Rattle.std.specs.Option.{MatchOption};
 ghost use Rattle.cf_check_judge.specs.Judge.{first_result, is_line};
 ghost use Rattle.cf_check_compare.specs.Lines.{IsFirstLine};
-ghost use Rattle.cf_check_model.specs.Reports.{device_line, is_result_line};
+ghost use Rattle.cf_check_model.specs.Reports.{device_line, is_result_line, result_lines};
 ghost use Rattle.cf_check_traces.specs.Tests.{begins};
 
 /// The line of an answer that a failed device cut off.
@@ -13,7 +14,7 @@ const DEVICE_LINE: &[u8] = b"= refused Device\n";
 pub(crate) const RESULT: &[u8] = b"= ";
 
 /// Whether the text begins with these bytes.
-pub(crate) fn begins(front: &[u8], text: &[u8]) -> bool
+pub fn begins(front: &[u8], text: &[u8]) -> bool
     ensures { result ≡ begins front.now text.now }
 {
     text.starts_with(front)
@@ -60,17 +61,27 @@ fn is_device_line(line: &[u8]) -> bool
     line == DEVICE_LINE
 }
 
-/// Whether the first result that a report shows from here on is that of a device that failed. Takes no memory.
-pub fn fails_next(rest: &[u8]) -> bool
-    ensures { result ≡ is_line device_line (first_result rest.now) }
+/// The next line of a result that a report shows, and what stands after it, or none where no more is left. Takes no memory.
+pub fn next_result(rest: &[u8]) -> Option<(&[u8], &[u8])>
+    ensures { MatchOption result (result_lines rest.now ≡ []) (λ p. result_lines rest.now ≡ p.0.now ∷ result_lines p.1.now) }
 {
     let mut left = rest;
     while !left.is_empty() {
         let (line, after) = next_line(left);
         if is_result(line) {
-            return is_device_line(line);
+            return Some((line, after));
         }
         left = after;
     }
-    false
+    None
+}
+
+/// Whether the first result that a report shows from here on is that of a device that failed. Takes no memory.
+pub fn fails_next(rest: &[u8]) -> bool
+    ensures { result ≡ is_line device_line (first_result rest.now) }
+{
+    match next_result(rest) {
+        Some((line, _after)) => is_device_line(line),
+        None => false,
+    }
 }

@@ -74,6 +74,13 @@ alone s (event.Device d) a t rest step h = λ peer. let z : false ≡ true = pee
 alone s (event.Engine g) a t rest step h = λ peer. let z : false ≡ true = peer in absurd cc
 alone s (event.Provider p) a t rest step h = λ peer. let z : false ≡ true = peer in absurd cc
 
+-- an answer that passes is not that of a device that failed
+pub runs_on : (e : Event) (a : Answer) (rest : List ℕ) → is_passed e a rest ≡ true → is_device a.shown ≡ false
+runs_on e a rest passed =
+    let w = both (not (is_device a.shown) && is_clean a && meets_peer e a rest) (meets_lines a.notes rest) passed in
+    let x = both (not (is_device a.shown) && is_clean a) (meets_peer e a rest) w.0 in
+    unless (is_device a.shown) (both (not (is_device a.shown)) (is_clean a) x.0).0
+
 -- the answer is that of a next event
 
 module _ (events : List Event) (report : List ℕ) (clusters : ℕ) (short : length report < 2 ^ 31) where

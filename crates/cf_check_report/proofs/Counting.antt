@@ -1,14 +1,14 @@
 -- The number in the line of a restart that resumed.
-use Rattle.std.proofs.Common.{◌≡◌, ◌≤◌, ◌<◌, ◌+◌, ◌-◌, ◌*◌, ◌/◌, ◌%◌, ◌^◌, ◌&&◌, ◌||◌, ◌==◌, ℕ, zero, suc, Bool, true, false, cond, List, [], ◌∷◌, ◌++◌, add-one, append-nil, append_assoc, drop, drop-cons, get_or, length, refl, sym, ◌∙◌, ap, arith}
+use Rattle.std.proofs.Common.{◌≡◌, ◌≤◌, ◌<◌, ◌+◌, ◌-◌, ◌*◌, ◌/◌, ◌%◌, ◌^◌, ◌&&◌, ℕ, zero, suc, Bool, true, false, cond, List, [], ◌∷◌, ◌++◌, add-one, append-nil, append_assoc, drop, drop-cons, get_or, length, refl, sym, ◌∙◌, ap, arith}
 use Rattle.std.specs.Char.{is_ascii_digit}
-use Rattle.std.specs.Prelude.{nat_le, nat_lt}
-use Rattle.std.proofs.lemmas.Bool.{eqb-true, le-leb, leb-true, ltb-true}
+use Rattle.std.specs.Prelude.{None, Some, nat_le}
+use Rattle.std.proofs.lemmas.Bool.{le-leb, leb-true, lt-ltb}
 use Rattle.cf_base.specs.declared.answers.OpenedBook.{OpenedBook}
 use Rattle.cf_base.specs.declared.answers.Shown.TheVariants as shown
 use Rattle.cf_check_model.specs.Reports.{Begins}
-use Rattle.cf_check_report.specs.Counts.{count_told, may_resume, number_from}
+use Rattle.cf_check_report.specs.Counts.{count_told, number_from}
 use Rattle.cf_check_text.proofs.Decimals.{last_digit, more_digits}
-use Rattle.cf_check_weights.specs.Weighed.{is_among}
+use Rattle.cf_check_report.specs.Restarts.{in_u64}
 use Rattle.cf_report.specs.Texts.{result_line}
 use Rattle.cf_report.specs.Words.{decimal, digits}
 
@@ -80,18 +80,6 @@ told_line n opened more =
 pub told_is : (n : ℕ) (opened : OpenedBook) (rest : List ℕ) → Begins rest (result_line (shown.Resumed n opened)) → count_told rest ≡ n
 told_is n opened rest b = ap count_told b.1 ∙ told_line n opened b.0
 
--- a number that is too great is none of some that are not, and less than none of them
-pub too_great : (places : List ℕ) (n m : ℕ) → ((i : ℕ) → get_or places i 0 < 2 ^ 64) → 2 ^ 64 ≤ n → m < 2 ^ 64 → false ≡ may_resume places n m
-too_great places n m small great few = rw (among_none places small, less_none (nat_lt n m) refl) refl
-  where
-    among_none : (ps : List ℕ) → ((i : ℕ) → get_or ps i 0 < 2 ^ 64) → is_among n ps ≡ false
-    among_none [] h = refl
-    among_none (p ∷ ps) h = by (p == n) refl (among_none ps (λ i. h (suc i)))
-      where
-        by : (b : Bool) → (p == n) ≡ b → is_among n ps ≡ false → (b || is_among n ps) ≡ false
-        by false e rest = rest
-        by true e rest = let is : p ≡ n = eqb-true p n e in let lt : p < 2 ^ 64 = h 0 in absurd (omega (arith, is, lt, great))
-
-    less_none : (b : Bool) → nat_lt n m ≡ b → nat_lt n m ≡ false
-    less_none false e = e
-    less_none true e = let lt : n < m = ltb-true n m e in absurd (omega (arith, lt, great, few))
+-- as a number of 64 bits
+pub in_so : (n : ℕ) → n < 2 ^ 64 → in_u64 n ≡ Some n
+in_so n lt = ap (λ (b : Bool). cond b (Some n) None) (lt-ltb n (2 ^ 64) lt)

@@ -1,6 +1,4 @@
+pub mod Aiming
 pub mod Answering
-pub mod Changes
 pub mod Counting
 pub mod Judging
-pub mod Knowing
-pub mod Resuming

@@ -1,5 +1,5 @@
 pub mod Counts
 pub mod Following
 pub mod Playing
-pub mod Points
+pub mod Restarts
 pub mod Straying

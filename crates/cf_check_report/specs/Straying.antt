@@ -1,5 +1,5 @@
 -- Where the way of a report is lost.
-use Rattle.std.specs.Prelude.{◌≡◌, ◌⊎◌, ◌≤◌, ◌^◌, ℕ, true, false, List, ◌∷◌, length}
+use Rattle.std.specs.Prelude.{◌≡◌, ◌≤◌, ◌^◌, ℕ, true, false, List, ◌∷◌, length}
 use Rattle.cf_base.specs.declared.answers.Answer.{Answer}
 use Rattle.cf_base.specs.declared.events.Event.{Event}
 use Rattle.cf_base.specs.declared.policies.Mode.TheVariants as mode
@@ -7,22 +7,10 @@ use Rattle.cf_check_compare.specs.Passed.{is_passed}
 use Rattle.cf_check_judge.specs.Judge.{first_result, is_line}
 use Rattle.cf_check_judge.specs.Settled.{IsAt}
 use Rattle.cf_check_model.specs.Reports.{device_line}
-use Rattle.cf_check_report.specs.Counts.{may_part}
-use Rattle.cf_check_report.specs.Points.{known}
-use Rattle.cf_check_traces.specs.Tests.{begins}
-use Rattle.cf_check_weights.specs.Weighed.{heavy_places}
 use Rattle.cf_model.specs.Events.{is_of}
 use Rattle.cf_model.specs.Lawful.{IsStep}
 use Rattle.cf_model.specs.State.{State}
 use Rattle.cf_report.specs.Texts.{text}
-
--- The event is a restart that resumes in a lawful answer, and the report goes on with one that resumed, but not with that answer: so with another
--- count. And a run with the same answers may resume that count, as far as it is known where it may have made a commit for room since the last point
--- that the answers tell: where the blocks that the items used there, with those into which the changes since may have put bytes, pass the clusters.
-abbrev pub HasOtherCount : ℕ → Event → List (Event × Answer) → State → List ℕ → Type 0
-HasOtherCount clusters e trace s rest =
-    (a : Answer) × (t : State) × IsStep mode.Replay s e a t × (t.link.honest ≡ true) × (begins (text a) rest ≡ false)
-    × (may_part (heavy_places clusters (known trace).point (known trace).log) e a rest ≡ true)
 
 -- The event has a lawful answer of 2^31 bytes or more. The remote does in it what the report tells: it passes the tests that each answer
 -- passes which is given so. So it is not that of a device that failed.
@@ -30,7 +18,7 @@ abbrev pub HasLongAnswer : Event → State → List ℕ → Type 0
 HasLongAnswer e s rest = (a : Answer) × (t : State) × IsStep mode.Replay s e a t × (t.link.honest ≡ true) × (is_passed e a rest ≡ true) × (2 ^ 31 ≤ length (text a))
 
 -- Some of the events have lawful answers with the texts of the report, and it does not go on with the answer of a device that failed. The
--- next event is one of `replay`. It is a restart that may resume as the report does or with another count, or its answer is too long.
+-- next event is one of `replay`, and has an answer that is too long.
 pub record IsStray (events : List Event) (report : List ℕ) (clusters : ℕ) : Type 0 where
   pub done : ℕ
   pub next : Event
@@ -41,4 +29,4 @@ pub record IsStray (events : List Event) (report : List ℕ) (clusters : ℕ) : 
   pub at : IsAt events report clusters done (next ∷ more) trace state rest
   pub allowed : is_of mode.Replay next ≡ true
   pub runs : is_line device_line (first_result rest) ≡ false
-  pub strays : HasOtherCount clusters next trace state rest ⊎ HasLongAnswer next state rest
+  pub long : HasLongAnswer next state rest

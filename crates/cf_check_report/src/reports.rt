@@ -1,29 +1,33 @@
 //! A whole report.
 
-ghost use Rattle.std.specs.Prelude.{◌≡◌, ◌<◌, ◌^◌, Err, IfOk, length};
-ghost use Rattle.cf_base.specs.declared.policies.Mode.TheVariants as mode;
+ghost use Rattle.std.specs.Prelude.{◌≡◌, ◌≤◌, ◌<◌, ◌+◌, ◌^◌, Err, IfOk, drop, length};
 ghost use Rattle.cf_check_judge.specs.Judge.{at_end};
 ghost use Rattle.cf_check_model.specs.Judging.{IsVerdict};
 ghost use Rattle.cf_check_report.specs.Straying.{IsStray};
 ghost use Rattle.cf_check_report.specs.declared.check_errors.CheckError.TheVariants as fails;
-ghost use Rattle.cf_model.specs.State.{start};
-ghost use Rattle.cf_model.specs.Store.{empty_remote};
 ghost use Rattle.cf_model.specs.Words.{is_empty};
 
 use crate::check_errors::CheckError;
 use crate::devices::Device;
 use crate::differences::{Difference, Judgement};
 use crate::judgements::{Judge, Judged};
-use crate::restarts::{Restarts, resumes};
+use crate::restarts::next_count;
 use cf_base::{Blob, Event};
 use cf_check_compare::after;
 use cf_check_model::Verdict;
-use cf_check_weights::Room;
 use std::alloc::Global;
 
 // Where the rest of a report begins in it.
 fn place(report: &[u8], rest: &[u8]) -> usize {
     report.len().saturating_sub(rest.len())
+}
+
+// The events behind the one at this index.
+fn behind(events: &[Event], index: usize) -> &[Event]
+    requires { index < length events.now }
+    ensures { result.now ≡ drop (index + 1) events.now }
+{
+    &events[index + 1..]
 }
 
 // A verdict without a difference.
@@ -62,38 +66,31 @@ fn at_end(rest: &[u8], done: u32, place: usize, expected: Blob) -> Judgement
     }
 }
 
-/// Judges a report of these events beside a device of so many clusters, in which nothing has happened, and a remote that is empty at the
-/// start. The verdict is the only one that is right. NotFollowed is answered only where the report's way was lost, as `CheckError` explains.
+/// Judges a report of these events, of a device with so many clusters, at most 65,536, in which nothing has happened, and a remote that is empty
+/// at the start. The verdict is the only one that is right. Fails as NotFollowed only where the report's way was lost, as `CheckError`
+/// explains, and as OutOfMemory.
 pub fn judge<D: Device + Drop>(
     alloc: Global,
-    device: D,
     clusters: u32,
     events: &[Event],
     report: &[u8],
 ) -> Result<Judgement, CheckError>
-    requires stands { D.stands device (start mode.Replay empty_remote clusters) }
+    requires clusters { clusters ≤ 65536 }
     requires events { length events.now < 2 ^ 32 }
     requires report { length report.now < 2 ^ 31 }
     ensures right { IfOk result (λ j. IsVerdict events.now report.now clusters j.verdict) }
     ensures strays { result ≡ Err fails.NotFollowed → IsStray events.now report.now clusters }
 {
-    let mut judge = Judge {
-        device,
-        room: Room::new(alloc, clusters),
-        expected: Blob::from_vec(Vec::new(alloc)),
-    };
-    let mut restarts = Restarts::new(events, report);
-    judge.aim(restarts.next_count());
+    let device = D::start(alloc, clusters, next_count(events, report))?;
+    let expected = Blob::from_vec(Vec::new(alloc));
+    let mut judge = Judge { device, expected };
     let mut rest = report;
     let mut done: u32 = 0;
-    for event in events {
-        let (next, judged) = judge.judge(alloc, event, rest);
+    for (index, event) in events.iter().enumerate() {
+        let (next, judged) = judge.judge(alloc, event, behind(events, index), rest);
         judge = next;
         match judged {
             Ok(Judged::GoesOn(len)) => {
-                if resumes(event, rest) {
-                    judge.aim(restarts.next_count());
-                }
                 rest = after(rest, len);
                 done += 1;
             }

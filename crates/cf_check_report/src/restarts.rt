@@ -1,72 +1,50 @@
-//! The restarts of a report that resumed, read ahead of the judge.
+//! The restarts of a report that resumed.
+
+ghost use Rattle.std.specs.Prelude.{◌≡◌};
+ghost use Rattle.cf_check_model.specs.Reports.{result_lines};
+ghost use Rattle.cf_check_report.specs.Restarts.{is_told, next_aim, next_count};
 
 use crate::counts::count_told;
 use cf_base::Event;
-use cf_check_compare::{after, is_restart};
-
-/// How the line of a result begins.
-const RESULT: &[u8] = b"= ";
+use cf_check_compare::{begins, is_restart, next_result};
 
 /// How the line of a restart that resumed begins, before its count.
 const RESUMED: &[u8] = b"= resumed ";
 
-/// The restarts of a report that resumed, in order. Each event has one line of a result. What is read is a hint for a device: no clause says
-/// that it is right.
-#[derive(Clone, Copy)]
-pub(crate) struct Restarts<'a> {
-    /// The events whose results were not read yet.
-    events: &'a [Event],
-    /// The report from behind the last result that was read.
-    rest: &'a [u8],
+// Whether the line of the event's result is that of a restart that resumed.
+fn is_told(event: &Event, line: &[u8]) -> bool
+    ensures { result ≡ is_told event.now line.now }
+{
+    is_restart(event) && begins(RESUMED, line)
 }
 
-// Where the first line ends, with the byte 10 that ends it.
-fn line_len(text: &[u8]) -> usize {
-    match text.iter().position(|b| *b == b'\n') {
-        Some(end) => end + 1,
-        None => text.len(),
-    }
-}
-
-// The report from its next line of a result on.
-fn from_result(report: &[u8]) -> &[u8] {
-    let mut rest = report;
-    for _ in 0..report.len() {
-        if rest.is_empty() || rest.starts_with(RESULT) {
-            return rest;
+/// How many changes the next of the events that is a restart which resumed kept, as the report goes on, or none where no such restart is left
+/// or the number is 2^64 or more. Takes no memory, and looks at the report up to the line of that restart.
+pub(crate) fn next_count(events: &[Event], rest: &[u8]) -> Option<u64>
+    ensures { result ≡ next_count events.now (result_lines rest.now) }
+{
+    let mut left = rest;
+    for event in events {
+        let Some((line, after)) = next_result(left) else {
+            return None;
+        };
+        if is_told(event, line) {
+            return count_told(line);
         }
-        rest = after(rest, line_len(rest));
+        left = after;
     }
-    rest
+    None
 }
 
-/// Whether the event is a restart, and the report goes on with the line of one that resumed.
-pub(crate) fn resumes(event: &Event, rest: &[u8]) -> bool {
-    is_restart(event) && rest.starts_with(RESUMED)
-}
-
-impl<'a> Restarts<'a> {
-    /// Those of a whole report. Takes no memory.
-    pub(crate) fn new(events: &'a [Event], report: &'a [u8]) -> Restarts<'a> {
-        Restarts {
-            events,
-            rest: report,
-        }
-    }
-
-    /// How many changes the next restart that resumed kept, or none where no more is left. Takes no memory, and looks at each event and each
-    /// byte once.
-    pub(crate) fn next_count(&mut self) -> Option<u64> {
-        let events = self.events;
-        for (place, event) in events.iter().enumerate() {
-            let result = from_result(self.rest);
-            self.rest = after(result, line_len(result));
-            if resumes(event, result) {
-                self.events = &events[place + 1..];
-                return count_told(result);
-            }
-        }
-        self.events = &[];
+/// Where the event is a restart and the report goes on with one that resumed: how many changes the next one kept, of the events behind it.
+/// So each part of a report is looked at once, from one such restart to the next.
+pub(crate) fn next_aim(event: &Event, events: &[Event], rest: &[u8]) -> Option<u64>
+    ensures { result ≡ next_aim event.now events.now (result_lines rest.now) }
+{
+    let (line, after) = next_result(rest)?;
+    if is_told(event, line) {
+        next_count(events, after)
+    } else {
         None
     }
 }

@@ -1,6 +1,6 @@
-use Rattle.std.proofs.Common.{sym, ◌∙◌, refl, ap}
-use Rattle.cf_check_compare.proofs.FirstLines.{result_here, result_later}
-use Rattle.cf_check_compare.proofs.lines.fails_next.Goals as goal
+use Rattle.std.proofs.Common.{sym, ◌∙◌, refl}
+use Rattle.cf_check_compare.proofs.FirstLines.{result_later}
+use Rattle.cf_check_compare.proofs.lines.next_result.Goals as goal
 
 pub loop-left-init : goal.loop-left-init
 loop-left-init c = refl
