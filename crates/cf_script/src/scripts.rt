@@ -9,7 +9,7 @@ ghost use Rattle.cf_script.specs.FailEvents.{IsCause};
 
 use crate::lines::event_of_line;
 use crate::script_errors::ScriptError;
-use cf_base::{Event, Mode, Sequence};
+use cf_base::{Event, Mode};
 use std::alloc::Global;
 
 /// The most events that a script has.
@@ -72,13 +72,12 @@ fn read_lines(alloc: Global, text: &[u8], mode: Mode) -> Result<Vec<Event>, Scri
 /// The events of a script, in order. The text has less than 4 GiB.
 ///
 /// Refused as Syntax or TooManyEvents with the number of the first line that is bad or has one event too many, and as OutOfMemory.
-pub fn read(alloc: Global, text: &[u8], mode: Mode) -> Result<Sequence<Event>, ScriptError>
+pub fn read(alloc: Global, text: &[u8], mode: Mode) -> Result<Vec<Event>, ScriptError>
     requires { length text.now < 2 ^ 32 }
-    ensures ok { IfOk result (λ events. IsScript mode text.now events) }
-    ensures of { IfOk result (λ events. IsTrue (list_all (is_of mode) events)) }
+    ensures ok { IfOk result (λ events. IsScript mode text.now events.items) }
+    ensures of { IfOk result (λ events. IsTrue (list_all (is_of mode) events.items)) }
     ensures cause { IfErr result (IsCause mode (lines_of text.now)) }
-    ensures complete { (events : List Event) → IsScript mode text.now events → MatchResult result (λ read. read ≡ events) (λ fail. fail ≡ ScriptError.OutOfMemory) }
+    ensures complete { (events : List Event) → IsScript mode text.now events → MatchResult result (λ read. read.items ≡ events) (λ fail. fail ≡ ScriptError.OutOfMemory) }
 {
-    let events = read_lines(alloc, text, mode)?;
-    Ok(Sequence::from_vec(events))
+    read_lines(alloc, text, mode)
 }

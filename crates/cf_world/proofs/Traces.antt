@@ -1,8 +1,8 @@
 -- Events that are done one after the other, and what was written of them.
-use Rattle.std.proofs.Common.{◌≡◌, ℕ, suc, ◌+◌, ◌<◌, Bool, true, false, length, drop, get_or, drop-cons, add-one, append_assoc, List, [], ◌∷◌, ◌++◌, refl, sym, ap, subst, ◌∙◌, inl, inr}
+use Rattle.std.proofs.Common.{◌≡◌, ℕ, ◌<◌, Bool, true, false, length, get_or, append_assoc, List, [], ◌∷◌, ◌++◌, refl, sym, ap, subst, ◌∙◌, inl, inr}
 use Rattle.std.specs.Prelude.{Option, IsTrue}
 use Rattle.std.specs.List.{list_all}
-use Rattle.std.proofs.lemmas.Bool.{cases_Bool}
+use Rattle.std.proofs.lemmas.Bool.{and_parts, cases_Bool}
 use Rattle.std.proofs.lemmas.List.{append-nil, map-append}
 use Rattle.std.proofs.lemmas.List.Folds.{list_all_at}
 use Rattle.cf_base.specs.declared.answers.Answer.{Answer}
@@ -33,15 +33,16 @@ all_there p xs i x all lt at = elim (cases_Bool (p x)) [
   | inr miss ↦ let z : true ≡ false = sym all ∙ list_all_at p xs i x lt (ap p (sym at) ∙ miss) in absurd cc
 ]
 
-next_rest : (all : List Event) (i : ℕ) (event : Event) → event ≡ get_or all i event → i < length all → drop i all ≡ event ∷ drop (suc i) all
-next_rest all i event item lt = drop-cons all i event lt ∙ ap (λ x. x ∷ drop (suc i) all) (sym item)
+-- the first of what is left, and the rest of it
+pub all_left : {X : Type 0} (p : X → Bool) (left rest : List X) (x : X) → IsTrue (list_all p left) → left ≡ x ∷ rest → IsTrue (p x) × IsTrue (list_all p rest)
+all_left p left rest x all parts = and_parts (p x) (list_all p rest) (subst (λ (xs : List _). IsTrue (list_all p xs)) parts all)
 
 -- one more event was done
-pub next_event : (all : List Event) (i : ℕ) (trace : List (Event × Answer)) (event : Event) (a : Answer) → event ≡ get_or all i event → i < length all → events_of trace ++ drop i all ≡ all → events_of (trace ++ (event, a) ∷ []) ++ drop (i + 1) all ≡ all
-next_event all i trace event a item lt parts =
-    let whole = rw (next_rest all i event item lt) at parts in
+pub next_event : (all left rest : List Event) (trace : List (Event × Answer)) (event : Event) (a : Answer) → left ≡ event ∷ rest → events_of trace ++ left ≡ all → events_of (trace ++ (event, a) ∷ []) ++ rest ≡ all
+next_event all left rest trace event a first parts =
+    let whole = rw first at parts in
     let events : events_of (trace ++ (event, a) ∷ []) ≡ events_of trace ++ event ∷ [] = map-append _ trace ((event, a) ∷ []) in
-    rw add-one (ap (λ x. x ++ drop (suc i) all) events ∙ append_assoc (events_of trace) (event ∷ []) (drop (suc i) all) ∙ whole)
+    ap (λ x. x ++ rest) events ∙ append_assoc (events_of trace) (event ∷ []) rest ∙ whole
 
 -- and has its text
 pub next_texts : (trace : List (Event × Answer)) (event : Event) (a : Answer) → texts (answers_of (trace ++ (event, a) ∷ [])) ≡ texts (answers_of trace) ++ text a
@@ -65,19 +66,19 @@ played_stops Said all rest trace made waiting old now new parts said h k =
     front_at Said all rest trace old new parts said (drafted_stops_here (texts (answers_of trace)) waiting made old now new h k)
 
 -- the text of an event that was done is not added
-pub played_early : {D A : Type 0} (state : D → Disk) (W : Acts A) (disk : D) (first : A) (all : List Event) (i : ℕ) (trace : List (Event × Answer)) (w : Option (Acting D A)) (event : Event) (a : Answer) (old new : Option (List ℕ)) (e : PlayError) → event ≡ get_or all i event → i < length all
-    → events_of trace ++ drop i all ≡ all → HasRunOn state W disk first (trace ++ (event, a) ∷ []) w → AddFails (texts (answers_of trace)) (text a) old new e → SomePlayed state W disk first all old new w e
-played_early state W disk first all i trace w event a old new SinkFault item lt parts run h =
-    front_at (λ ps. HasRunOn state W disk first ps w) all (drop (i + 1) all) (trace ++ (event, a) ∷ []) old new (next_event all i trace event a item lt parts) run (subst (λ x. AddsFront old new x) (sym (next_texts trace event a)) h)
-played_early state W disk first all i trace w event a old new OutOfMemory item lt parts run h =
-    front_at (IsLawfulFrom W (clusters_for (state disk)) first) all (drop (i + 1) all) (trace ++ (event, a) ∷ []) old new (next_event all i trace event a item lt parts) (run_lawful state W disk first (trace ++ (event, a) ∷ []) w run)
+pub played_early : {D A : Type 0} (state : D → Disk) (W : Acts A) (disk : D) (first : A) (all left rest : List Event) (trace : List (Event × Answer)) (w : Option (Acting D A)) (event : Event) (a : Answer) (old new : Option (List ℕ)) (e : PlayError) → left ≡ event ∷ rest
+    → events_of trace ++ left ≡ all → HasRunOn state W disk first (trace ++ (event, a) ∷ []) w → AddFails (texts (answers_of trace)) (text a) old new e → SomePlayed state W disk first all old new w e
+played_early state W disk first all left rest trace w event a old new SinkFault one parts run h =
+    front_at (λ ps. HasRunOn state W disk first ps w) all rest (trace ++ (event, a) ∷ []) old new (next_event all left rest trace event a one parts) run (subst (λ x. AddsFront old new x) (sym (next_texts trace event a)) h)
+played_early state W disk first all left rest trace w event a old new OutOfMemory one parts run h =
+    front_at (IsLawfulFrom W (clusters_for (state disk)) first) all rest (trace ++ (event, a) ∷ []) old new (next_event all left rest trace event a one parts) (run_lawful state W disk first (trace ++ (event, a) ∷ []) w run)
     (subst (λ x. AddsFront old new x) (sym (next_texts trace event a)) h)
-played_early state W disk first all i trace w event a old new TooLong item lt parts run h = record {
+played_early state W disk first all left rest trace w event a old new TooLong one parts run h = record {
   trace = trace;
   event = event;
   answer = a;
-  more = drop (suc i) all;
-  first = rw (next_rest all i event item lt) at parts;
+  more = rest;
+  first = rw one at parts;
   said = run;
   written = h.1;
   passes = h.0;

@@ -22,19 +22,20 @@ use cf_io::{Sink, write_all};
 use cf_report::text;
 use std::alloc::Global;
 
-/// Does the events in a world in which nothing has happened, writes the text of each answer, and counts it.
+/// Does the events in a world in which nothing has happened, writes the text of each answer, and counts it. An event is dropped once it is
+/// done, so that the bytes of a script do not stay in memory beside what they made.
 pub fn play<K: Sink, D: Disk + Drop, A: Actor + Drop>(
     alloc: Global,
     world: &mut World<D, A>,
-    events: &[Event],
+    events: Vec<Event>,
     sink: &mut K,
     counts: &mut Counts,
 ) -> Result<(), PlayError>
     requires whole { is_some world.old ≡ true }
-    requires of { IsTrue (list_all (is_of A.acts.mode) events.now) }
+    requires of { IsTrue (list_all (is_of A.acts.mode) events.items) }
     requires none { counts.old ≡ counts_of [] }
-    ensures ok { (disk : D) (first : A) → HasRunOn D.state A.acts disk first [] world.old → OnOk result (AllPlayed D.state A.acts disk first events.now (K.held sink.old) (K.held sink.new) world.new counts.new) }
-    ensures err { (disk : D) (first : A) → HasRunOn D.state A.acts disk first [] world.old → IfErr result (SomePlayed D.state A.acts disk first events.now (K.held sink.old) (K.held sink.new) world.new) }
+    ensures ok { (disk : D) (first : A) → HasRunOn D.state A.acts disk first [] world.old → OnOk result (AllPlayed D.state A.acts disk first events.items (K.held sink.old) (K.held sink.new) world.new counts.new) }
+    ensures err { (disk : D) (first : A) → HasRunOn D.state A.acts disk first [] world.old → IfErr result (SomePlayed D.state A.acts disk first events.items (K.held sink.old) (K.held sink.new) world.new) }
     ensures whole { is_some world.new ≡ true }
     ensures fault { IsErrOf result PlayError.SinkFault → Rose (K.faults sink.old) (K.faults sink.new) }
 {
@@ -48,19 +49,21 @@ pub fn play<K: Sink, D: Disk + Drop, A: Actor + Drop>(
     Ok(())
 }
 
-/// Does an event, counts its answer, and gives its text.
+/// Does an event and drops it, counts its answer, and gives its text.
 fn answer<D: Disk + Drop, A: Actor + Drop>(
     alloc: Global,
     world: &mut World<D, A>,
-    event: &Event,
+    event: Event,
     counts: &mut Counts,
 ) -> Result<Blob, OutOfMemory>
     requires whole { is_some world.old ≡ true }
-    requires of { is_of A.acts.mode event.now ≡ true }
-    ensures ok { IfOk result (λ t. (a : Answered) × (t ≡ text_of a) × ((before : List Answered) → counts.old ≡ counts_of before → counts.new ≡ counts_of (before ++ a ∷ [])) × ((disk : D) (first : A) (trace : List (Done × Answered)) → HasRunOn D.state A.acts disk first trace world.old → HasRunOn D.state A.acts disk first (trace ++ (event.now, a) ∷ []) world.new)) }
+    requires of { is_of A.acts.mode event ≡ true }
+    ensures ok { IfOk result (λ t. (a : Answered) × (t ≡ text_of a) × ((before : List Answered) → counts.old ≡ counts_of before → counts.new ≡ counts_of (before ++ a ∷ [])) × ((disk : D) (first : A) (trace : List (Done × Answered)) → HasRunOn D.state A.acts disk first trace world.old → HasRunOn D.state A.acts disk first (trace ++ (event, a) ∷ []) world.new)) }
     ensures whole { is_some world.new ≡ true }
 {
-    let answer = world.step(alloc, event)?;
+    let done = world.step(alloc, &event);
+    drop(event);
+    let answer = done?;
     let counted = counts.add(&answer);
     let told = text(alloc, &answer);
     drop(answer);

@@ -34,14 +34,14 @@ pub(crate) struct Played<D, A> {
 pub(crate) fn report<K: Sink, D: Disk + Drop, A: Actor + Drop>(
     alloc: Global,
     text: &[u8],
-    events: &[Event],
+    events: Vec<Event>,
     sink: &mut K,
     disk: D,
     actor: A,
 ) -> Played<D, A>
     requires short { length text.now ≤ most_script }
-    requires script { IsScript A.acts.mode text.now events.now }
-    requires of { IsTrue (list_all (is_of A.acts.mode) events.now) }
+    requires script { IsScript A.acts.mode text.now events.items }
+    requires of { IsTrue (list_all (is_of A.acts.mode) events.items) }
     requires fit { IsFitSize (size_of (D.state disk)) }
     ensures writes { WritesBy D.state A.acts disk actor text.now (K.held sink.old) (K.held sink.new) result.status result.disk result.actor }
     ensures only { IsPlayed result.status }
@@ -52,11 +52,14 @@ pub(crate) fn report<K: Sink, D: Disk + Drop, A: Actor + Drop>(
 {
     match World::start(alloc, disk, actor) {
         Ok(world) => done(alloc, text, events, sink, world),
-        Err((disk, actor, fail)) => Played {
-            status: unstarted(fail),
-            disk,
-            actor,
-        },
+        Err((disk, actor, fail)) => {
+            drop(events);
+            Played {
+                status: unstarted(fail),
+                disk,
+                actor,
+            }
+        }
     }
 }
 
@@ -74,13 +77,13 @@ pub fn unstarted(fail: CallError) -> Status
 fn done<K: Sink, D: Disk + Drop, A: Actor + Drop>(
     alloc: Global,
     text: &[u8],
-    events: &[Event],
+    events: Vec<Event>,
     sink: &mut K,
     mut world: World<D, A>,
 ) -> Played<D, A>
     requires short { length text.now ≤ most_script }
-    requires script { IsScript A.acts.mode text.now events.now }
-    requires of { IsTrue (list_all (is_of A.acts.mode) events.now) }
+    requires script { IsScript A.acts.mode text.now events.items }
+    requires of { IsTrue (list_all (is_of A.acts.mode) events.items) }
     requires whole { is_some world ≡ true }
     ensures writes { (disk : D) (first : A) → HasRunOn D.state A.acts disk first [] world → WritesBy D.state A.acts disk first text.now (K.held sink.old) (K.held sink.new) result.status result.disk result.actor }
     ensures only { IsOfReport result.status }

@@ -58,16 +58,7 @@ pub(crate) fn scripted<K: Sink, D: Disk + Drop, R: Remote + Drop>(
     ensures unexplained { result.explanation ≡ None }
 {
     match read(alloc, text, mode) {
-        Ok(events) => started(
-            alloc,
-            mode,
-            output,
-            text,
-            events.as_slice(),
-            sink,
-            disk,
-            remote,
-        ),
+        Ok(events) => started(alloc, mode, output, text, events, sink, disk, remote),
         Err(fail) => Finish {
             status: refuse(alloc, mode, text, fail, sink),
             disk,
@@ -90,13 +81,13 @@ fn started<K: Sink, D: Disk + Drop, R: Remote + Drop>(
     mode: Mode,
     output: Output,
     text: &[u8],
-    events: &[Event],
+    events: Vec<Event>,
     sink: &mut K,
     disk: D,
     remote: R,
 ) -> Finish<D, R>
     requires short { length text.now ≤ most_script }
-    requires script { IsScript mode text.now events.now }
+    requires script { IsScript mode text.now events.items }
     requires report { mode ≡ modes.Filter → output ≡ outputs.Report }
     ensures writes { WritesAs D.state R.told output mode disk remote text.now (K.held sink.old) (K.held sink.new) result.status result.disk result.remote }
     ensures only { IsStarted result.status }
@@ -111,6 +102,7 @@ fn started<K: Sink, D: Disk + Drop, R: Remote + Drop>(
     ensures unexplained { result.explanation ≡ None }
 {
     if !is_fit(disk.size()) {
+        drop(events);
         return Finish {
             status: Status::BadDevice,
             disk,
@@ -129,13 +121,13 @@ fn replayed<K: Sink, D: Disk + Drop, R: Remote + Drop>(
     alloc: Global,
     output: Output,
     text: &[u8],
-    events: &[Event],
+    events: Vec<Event>,
     sink: &mut K,
     disk: D,
     remote: R,
 ) -> Finish<D, R>
     requires short { length text.now ≤ most_script }
-    requires script { IsScript modes.Replay text.now events.now }
+    requires script { IsScript modes.Replay text.now events.items }
     requires fit { IsFitSize (size_of (D.state disk)) }
     ensures writes { WritesAs D.state R.told output modes.Replay disk remote text.now (K.held sink.old) (K.held sink.new) result.status result.disk result.remote }
     ensures only { IsPlayed result.status }
@@ -160,14 +152,14 @@ fn put_out<K: Sink, D: Disk + Drop, A: Actor + Drop>(
     alloc: Global,
     output: Output,
     text: &[u8],
-    events: &[Event],
+    events: Vec<Event>,
     sink: &mut K,
     disk: D,
     actor: A,
 ) -> Played<D, A>
     requires short { length text.now ≤ most_script }
-    requires script { IsScript A.acts.mode text.now events.now }
-    requires of { IsTrue (list_all (is_of A.acts.mode) events.now) }
+    requires script { IsScript A.acts.mode text.now events.items }
+    requires of { IsTrue (list_all (is_of A.acts.mode) events.items) }
     requires fit { IsFitSize (size_of (D.state disk)) }
     ensures writes { WritesAsBy D.state A.acts output disk actor text.now (K.held sink.old) (K.held sink.new) result.status result.disk result.actor }
     ensures only { IsPlayed result.status }
@@ -186,13 +178,13 @@ fn put_out<K: Sink, D: Disk + Drop, A: Actor + Drop>(
 fn filtered<K: Sink, D: Disk + Drop, R: Remote + Drop>(
     alloc: Global,
     text: &[u8],
-    events: &[Event],
+    events: Vec<Event>,
     sink: &mut K,
     disk: D,
     remote: R,
 ) -> Finish<D, R>
     requires short { length text.now ≤ most_script }
-    requires script { IsScript modes.Filter text.now events.now }
+    requires script { IsScript modes.Filter text.now events.items }
     requires fit { IsFitSize (size_of (D.state disk)) }
     ensures writes { WritesOf D.state R.told modes.Filter disk remote text.now (K.held sink.old) (K.held sink.new) result.status result.disk result.remote }
     ensures only { IsPlayed result.status }

@@ -11,7 +11,7 @@ pub returns-in_default-clause-bad : goal.returns-in_default-clause-bad
 returns-in_default-clause-bad g c = λ is events report r. unmarked_bad c.args.text.now c.in_default.ensures events report r
 
 pub returns-in-Ok-clause-writes : goal.returns-in-Ok-clause-writes
-returns-in-Ok-clause-writes g c = verdict_written c.args.text.now (g.K.Sink.held c.args.sink.now) (g.K.Sink.held c.judge_report-checked.new.sink) c.requires c.as_slice.result.now c.in-Some.report.now c.judge_report-checked.result.status (c.in-Some.script.now, c.in-Some.ensures, rw c.as_slice.ensures c.in-Ok.ensures.ok) c.judge_report-checked.ensures.puts
+returns-in-Ok-clause-writes g c = verdict_written c.args.text.now (g.K.Sink.held c.args.sink.now) (g.K.Sink.held c.judge_report-checked.new.sink) c.requires c.as_slice.result.now c.in-Some.report.now c.judge_report-checked.result.status (c.in-Some.script.now, c.in-Some.ensures, rw c.as_slice.ensures.value c.in-Ok.ensures.ok) c.judge_report-checked.ensures.puts
 
 pub returns-in-Err-clause-writes : goal.returns-in-Err-clause-writes
 returns-in-Err-clause-writes g c = rw c.plain-in-Err.ensures.status (refused_written c.args.text.now (g.K.Sink.held c.args.sink.now) (g.K.Sink.held c.refuse.new.sink) c.requires c.in-Some.script.now c.in-Some.report.now c.refuse.result c.in-Some.ensures c.refuse.ensures.writes)

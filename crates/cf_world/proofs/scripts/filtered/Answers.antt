@@ -14,4 +14,4 @@ returns-clause-writes g c =
     c.args.text.now (g.K.Sink.held c.args.sink.now) (g.K.Sink.held c.report-played.new.sink) c.report-played.result.status c.report-played.ensures.writes
 
 pub report-played-requires-clause-of : goal.report-played-requires-clause-of
-report-played-requires-clause-of g c = all_of_mode mode.Filter c.args.text.now c.args.events.now c.requires.script
+report-played-requires-clause-of g c = all_of_mode mode.Filter c.args.text.now c.args.events.items c.requires.script

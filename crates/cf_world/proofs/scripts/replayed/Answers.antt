@@ -18,4 +18,4 @@ returns-clause-writes g c =
     c.args.output c.args.text.now (g.K.Sink.held c.args.sink.now) (g.K.Sink.held c.put_out-played.new.sink) c.put_out-played.result.status c.put_out-played.ensures.writes
 
 pub put_out-played-requires-clause-of : goal.put_out-played-requires-clause-of
-put_out-played-requires-clause-of g c = all_of_mode mode.Replay c.args.text.now c.args.events.now c.requires.script
+put_out-played-requires-clause-of g c = all_of_mode mode.Replay c.args.text.now c.args.events.items c.requires.script
