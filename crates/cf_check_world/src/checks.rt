@@ -24,6 +24,5 @@ pub fn check(
     ensures right { IfOk result (λ j. IsVerdict events.now report.now clusters j.verdict) }
     ensures strays { result ≡ Err fails.NotFollowed → IsStray events.now report.now clusters }
 {
-    let device = MemDevice::start(alloc, clusters)?;
-    judge(alloc, device, clusters, events, report)
+    judge::<MemDevice>(alloc, clusters, events, report)
 }

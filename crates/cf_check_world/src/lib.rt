@@ -1,4 +1,5 @@
-//! The filter and the engine of `replay` beside a remote that fails where a report says that it did: what a report is judged beside.
+//! The filter and the engine of `replay` beside a remote that fails where a report says that it did, on a disk that wants a commit for room where
+//! the report resumes next: what a report is judged beside.
 #![tactic(auto)]
 
 mod checks;

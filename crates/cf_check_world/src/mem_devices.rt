@@ -1,28 +1,25 @@
 //! A device in memory.
 
-ghost use Rattle.std.specs.Prelude.{◌≡◌, ◌≤◌, IfOk, None, Some, true};
+ghost use Rattle.std.specs.Prelude.{◌≡◌, ◌≤◌, ℕ, IfOk, None, Some, true};
 ghost use Rattle.cf_base.specs.declared.policies.Mode.TheVariants as mode;
-ghost use Rattle.cf_check_report.specs.Playing.{Plays};
-ghost use Rattle.cf_check_world.specs.Devices.{Stands, calm, is_stop};
+ghost use Rattle.cf_check_world.specs.Devices.{Does, IsReadied, calm, is_stop};
 ghost use Rattle.cf_disk.specs.Disk.{size_of};
 ghost use Rattle.cf_disk.specs.MemState.{mem_state};
 ghost use Rattle.cf_journal.specs.Settled.{IsFitSize};
 ghost use Rattle.cf_model.specs.Events.{is_of};
-ghost use Rattle.cf_model.specs.State.{start};
-ghost use Rattle.cf_model.specs.Store.{empty_remote};
 ghost use Rattle.cf_volume.specs.Calls.{IsMemory};
 ghost use Rattle.cf_volume_points.specs.Standing.{clusters_for};
 
 use crate::told_remotes::ToldRemote;
 use cf_base::limits::BLOCK_BYTES;
 use cf_base::{Answer, CallError, DeviceEvent, Event, OutOfMemory};
+use cf_check_compare::is_restart;
 use cf_check_report::Device;
-use cf_disk::MemDisk;
+use cf_disk::{Disk, MemDisk};
 use cf_engine::SyncActor;
 use cf_filter_events::Acting;
 use cf_journal::LEAST_SIZE;
 use cf_pair_lane::Away;
-use cf_state::used_blocks;
 use std::alloc::Global;
 
 /// The most clusters that a volume has.
@@ -34,17 +31,34 @@ pub struct MemDevice {
     pub(crate) acting: Acting<MemDisk, SyncActor<ToldRemote>>,
 }
 
+// The disk, which wants a commit for room after so many changes, or wants one nowhere.
+fn aimed(mut disk: MemDisk, aim: Option<u64>) -> MemDisk
+    ensures size { size_of (mem_state result) ≡ size_of (mem_state disk) }
+    ensures clusters { clusters_for (mem_state result) ≡ clusters_for (mem_state disk) }
+    ensures armed { (mem_state result).armed ≡ (mem_state disk).armed }
+    ensures wants { (n : ℕ) → aim ≡ Some n → (mem_state result).settings.aim ≡ Some n }
+{
+    match aim {
+        Some(changes) => {
+            disk.aim(changes);
+            disk
+        }
+        None => disk,
+    }
+}
+
 // A disk of which a volume may use so many clusters, and no call fails. It has three times as many, if it can: so a volume on it needs no
 // commit for room but where it is told to make one.
-fn new_disk(alloc: Global, clusters: u32) -> Result<MemDisk, OutOfMemory>
+fn new_disk(alloc: Global, clusters: u32, aim: Option<u64>) -> Result<MemDisk, OutOfMemory>
     requires { clusters ≤ 65536 }
     ensures fit { IfOk result (λ d. IsFitSize (size_of (mem_state d))) }
     ensures clusters { IfOk result (λ d. clusters_for (mem_state d) ≡ clusters) }
     ensures calm { IfOk result (λ d. (mem_state d).armed ≡ Some None) }
+    ensures wants { IfOk result (λ d. (n : ℕ) → aim ≡ Some n → (mem_state d).settings.aim ≡ Some n) }
 {
     let room = (3 * clusters).min(MOST_CLUSTERS);
     let disk = MemDisk::new(alloc, LEAST_SIZE + u64::from(room) * BLOCK_BYTES)?;
-    Ok(disk.with_quota(u64::from(clusters)))
+    Ok(aimed(disk.with_quota(u64::from(clusters)), aim))
 }
 
 // Why no device was made. A disk that is not armed does not fail.
@@ -75,20 +89,16 @@ fn is_stop(event: &Event) -> bool
 }
 
 impl MemDevice {
-    /// A device that was just made, with so many clusters, at most 65,536, beside an empty remote of which no ask fails.
-    pub fn start(alloc: Global, clusters: u32) -> Result<MemDevice, OutOfMemory>
-        requires { clusters ≤ 65536 }
-        ensures { IfOk result (λ d. Stands d (start mode.Replay empty_remote clusters)) }
+    // Aims the volume that a restart is to open.
+    fn ready(&mut self, event: &Event, aim: Option<u64>)
+        ensures { IsReadied event.now aim self.old self.new }
     {
-        let remote = ToldRemote::new(alloc)?;
-        let disk = new_disk(alloc, clusters)?;
-        match Acting::start(alloc, disk, SyncActor::new(alloc, remote)) {
-            Ok(acting) => Ok(MemDevice { acting }),
-            Err((disk, actor, fail)) => {
-                drop(disk);
-                drop(actor);
-                Err(unmade(fail))
-            }
+        if !is_restart(event) {
+            return;
+        }
+        match aim {
+            Some(changes) => self.acting.aim(changes),
+            None => {}
         }
     }
 
@@ -100,7 +110,7 @@ impl MemDevice {
         fails: Vec<bool>,
     ) -> (MemDevice, Result<Answer, OutOfMemory>)
         requires { is_of mode.Replay event.now ≡ true }
-        ensures { Plays Stands event.now self result.1 result.0 }
+        ensures { Does event.now self result.1 result.0 }
     {
         let (volume, actor) = self.acting.apart();
         let (actor, remote) = actor.with_remote(Away);
@@ -115,12 +125,27 @@ impl Device for MemDevice {
 
     ghost stands = { Stands };
 
+    fn start(alloc: Global, clusters: u32, aim: Option<u64>) -> Result<MemDevice, OutOfMemory> {
+        let remote = ToldRemote::new(alloc)?;
+        let disk = new_disk(alloc, clusters, aim)?;
+        match Acting::start(alloc, disk, SyncActor::new(alloc, remote)) {
+            Ok(acting) => Ok(MemDevice { acting }),
+            Err((disk, actor, fail)) => {
+                drop(disk);
+                drop(actor);
+                Err(unmade(fail))
+            }
+        }
+    }
+
     fn step(
-        self,
+        mut self,
         alloc: Global,
         event: &Event,
         fails: Vec<bool>,
+        aim: Option<u64>,
     ) -> (MemDevice, Result<Answer, OutOfMemory>) {
+        self.ready(event, aim);
         if is_stop(event) {
             self.act(alloc, &calm(), fails)
         } else {
@@ -128,12 +153,5 @@ impl Device for MemDevice {
         }
     }
 
-    // The work grows with the items, and it is asked at points alone.
-    fn used(&self) -> u32 {
-        used_blocks(&self.acting)
-    }
-
-    fn aim(&mut self, changes: u64) {
-        self.acting.aim(changes);
-    }
+    ghost aimed = { λ d aim s h. h.aimed };
 }

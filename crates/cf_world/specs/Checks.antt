@@ -78,8 +78,7 @@ HasLine text line status.BadScript = IsUnread text line
 HasLine text line s = IsJudged text line s
 
 -- What was written, by the status: one line, a front of it, or nothing. A recording that is not followed strays at some event: the events
--- before it have lawful answers with these texts, and it is a restart that resumed where a lawful one resumes another count, of a volume that may
--- have made a commit for room since the last flush or restart; or it has a lawful answer of 2^31 bytes or more.
+-- before it have lawful answers with these texts, and it has a lawful answer of 2^31 bytes or more.
 abbrev pub CheckWrites : List ℕ → Option (List ℕ) → Option (List ℕ) → Status → Type 0
 CheckWrites text old new status.Done = (length text ≤ most_checked) × (line : List ℕ) × HasLine text line status.Done × Adds old new line
 CheckWrites text old new status.Unlawful = (length text ≤ most_checked) × (line : List ℕ) × HasLine text line status.Unlawful × Adds old new line
