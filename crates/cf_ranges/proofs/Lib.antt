@@ -5,3 +5,4 @@ pub mod One
 pub mod OwnedSets
 pub mod Search
 pub mod Sets
+pub mod Skips

@@ -4,7 +4,7 @@ use Rattle.std.proofs.lemmas.Bool.{cond-true, cond-false, lt-ltb, le-ltb}
 use Rattle.cf_base.specs.declared.spans.Span.{Span}
 use Rattle.cf_ranges.specs.Steps.{added}
 
-next : (i : ℕ) (runs : List Span) (d : Span) → i < length runs → drop i runs ≡ get_or runs i d ∷ drop (i + 1) runs
+pub next : (i : ℕ) (runs : List Span) (d : Span) → i < length runs → drop i runs ≡ get_or runs i d ∷ drop (i + 1) runs
 next i runs d h = rw add-one (drop-cons runs i d h)
 
 before : (start end : ℕ) (r : Span) (rs : List Span) → r.start + r.len < start → added start end (r ∷ rs) ≡ r ∷ added start end rs

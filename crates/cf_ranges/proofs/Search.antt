@@ -9,7 +9,7 @@ use Rattle.cf_base.specs.declared.spans.Span.{Span}
 use Rattle.cf_ranges.specs.Positions.{within, in_span, contains, touches, IsRunsFrom, IsRuns}
 use Rattle.cf_ranges.proofs.Sets.{none_below}
 
-from_low : (low j : ℕ) (runs : List Span) (d : Span) → IsRunsFrom low runs → j < length runs → low ≤ (get_or runs j d).start
+pub from_low : (low j : ℕ) (runs : List Span) (d : Span) → IsRunsFrom low runs → j < length runs → low ≤ (get_or runs j d).start
 from_low low j [] d h lt = absurd (omega arith)
 from_low low zero (r ∷ rs) d h lt = h.0
 from_low low (suc j) (r ∷ rs) d h lt = omega (arith, h.0, from_low (r.start + r.len + 1) j rs d h.3 (omega arith))

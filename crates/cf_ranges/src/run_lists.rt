@@ -1,5 +1,5 @@
 //! Lists of maximal runs in order.
-ghost use Rattle.std.specs.Prelude.{◌≡◌, ℕ, ◌+◌, ◌-◌, ◌^◌, ◌≤◌, ◌<◌, ◌++◌, ◌||◌, ◌↔◌, [], nat_lt, OnOk, IfOk, IsTrue};
+ghost use Rattle.std.specs.Prelude.{◌≡◌, ℕ, ◌+◌, ◌-◌, ◌^◌, ◌≤◌, ◌<◌, ◌++◌, ◌||◌, ◌↔◌, [], drop, length, nat_lt, OnOk, IfOk, IsTrue};
 ghost use Rattle.cf_ranges.specs.Positions.{contains, IsRuns, touches};
 ghost use Rattle.cf_ranges.specs.Steps.{added, piece, cut_of, missing_of, blocks_from};
 
@@ -126,6 +126,25 @@ pub(crate) fn without_span(
     Ok(out)
 }
 
+// The runs from this index on.
+fn from_index(runs: &[Span], first: usize) -> &[Span]
+    requires { first ≤ length runs.now }
+    ensures { result.now ≡ drop first runs.now }
+{
+    &runs[first..]
+}
+
+// The runs from the last one on that begins by the position: no run before it reaches so far.
+fn near_runs(runs: &[Span], at: u64) -> &[Span]
+    requires { IsRuns runs.now }
+    ensures runs { IsRuns result.now }
+    ensures missing { (end : ℕ) → missing_of at end result.now ≡ missing_of at end runs.now }
+{
+    let next = runs.partition_point(|run| run.start <= at);
+    from_index(runs, next.saturating_sub(1))
+}
+
+// Looks at the runs near the span alone.
 #[tactic(auto, using(crate::proofs::Sets::small_runs))]
 pub(crate) fn missing_in(alloc: Global, runs: &[Span], span: Span) -> Result<Vec<Span>, OutOfMemory>
     requires runs { IsRuns runs.now }
@@ -135,7 +154,11 @@ pub(crate) fn missing_in(alloc: Global, runs: &[Span], span: Span) -> Result<Vec
     let mut out = Vec::new(alloc);
     let end = span.start + span.len;
     let mut at = span.start;
-    for run in runs {
+    let near = near_runs(runs, at);
+    for run in near {
+        if end <= run.start {
+            break;
+        }
         push_piece(&mut out, at, end.min(run.start))?;
         at = at.max(run.start + run.len);
     }
