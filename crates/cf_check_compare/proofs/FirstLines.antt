@@ -85,9 +85,6 @@ line_whole text some e = record {
 
 -- results
 
-pub result_here : (text line after : List ℕ) → IsFirstLine text line after → is_result_line line ≡ true → result_lines text ≡ line ∷ result_lines after
-result_here text line after h is = ap (λ (ls : List (List ℕ)). filter is_result_line ls) h.lines ∙ rw is refl
-
 pub result_later : (text line after : List ℕ) → IsFirstLine text line after → is_result_line line ≡ false → result_lines text ≡ result_lines after
 result_later text line after h is = ap (λ (ls : List (List ℕ)). filter is_result_line ls) h.lines ∙ rw is refl
 

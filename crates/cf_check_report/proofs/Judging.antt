@@ -2,10 +2,8 @@
 use Rattle.std.proofs.Common.{◌≡◌, ◌<◌, ◌+◌, ◌-◌, ◌^◌, ℕ, suc, Bool, true, false, List, [], ◌∷◌, ◌++◌, length, refl, sym, ◌∙◌, ap, subst, arith, length-drop, take, take_all}
 use Rattle.std.specs.Prelude.{Err, Ok, Option, Result, drop, get_or, not}
 use Rattle.cf_base.specs.declared.answers.Answer.{Answer}
-use Rattle.cf_base.specs.declared.events.DeviceEvent.TheVariants as device
 use Rattle.cf_base.specs.declared.events.Event.{Event}
 use Rattle.cf_base.specs.declared.events.Event.TheVariants as event
-use Rattle.cf_base.specs.declared.memory.OutOfMemory.{OutOfMemory as NoMemory}
 use Rattle.cf_base.specs.declared.policies.Mode.TheVariants as mode
 use Rattle.cf_check_compare.proofs.Alls.{rest_is}
 use Rattle.cf_check_compare.specs.Passed.{IsComparison, is_passed}
@@ -124,15 +122,6 @@ pub ended : {D : Type 0} (Stands : D → Option ℕ → State → Type 0) (event
 ended Stands events report clusters done rest j short h = at_the_end events report clusters (omega (arith, short)) done h.trace h.state rest h.at (is_empty rest) refl
 
 -- in code
-
--- without memory the device did not answer
-pub unplayed : {D : Type 0} (Stands : D → Option ℕ → State → Type 0) (e : Event) (next : Option ℕ) (old new : D) (m : NoMemory) → Plays Stands e next old (Err m) new
-unplayed Stands e next old new m = record { leads = λ aim s stands. record {} }
-
-pub told_taken : (e : Event) (a : Answer) (rest : List ℕ) (c : Comparison) (r : Result Judged CheckError) → r ≡ judged_by c → IsComparison e a rest c → IsTaken e a rest r
-told_taken e a rest c (Ok j) told is = (c, is, sym told)
-told_taken e a rest c (Err fails.NotFollowed) told is = (c, is, sym told)
-told_taken e a rest c (Err fails.OutOfMemory) told is = record {}
 
 pub by_result : {D : Type 0} (Stands : D → Option ℕ → State → Type 0) (aimed : (d : D) (aim : Option ℕ) (s : State) → Stands d aim s → IsAimedBy aim s.filter.volume) (events : List Event) (report : List ℕ) (clusters done : ℕ) (e : Event) (es : List Event) (rest : List ℕ) (a : Answer) (old new : Judge D) (next : Option ℕ) (r : Result Judged CheckError) → length report < 2 ^ 31
     → is_of mode.Replay e ≡ true → is_line device_line (first_result rest) ≡ false → next ≡ next_aim e es (result_lines rest) → Plays Stands e next old.device (Ok a) new.device → IsTaken e a rest r → Follows Stands events report clusters done (e ∷ es) rest old → JudgedTo Stands events report clusters done es rest r new

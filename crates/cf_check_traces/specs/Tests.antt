@@ -5,7 +5,6 @@ use Rattle.std.specs.List.{flat_map}
 use Rattle.cf_base.specs.declared.answers.Answer.{Answer}
 use Rattle.cf_base.specs.declared.answers.Shown.{Shown}
 use Rattle.cf_base.specs.declared.answers.Shown.TheVariants as shown
-use Rattle.cf_base.specs.declared.calls.Call.TheVariants as call
 use Rattle.cf_base.specs.declared.codes.Code.{Code}
 use Rattle.cf_base.specs.declared.codes.Code.TheVariants as code
 use Rattle.cf_base.specs.declared.events.DeviceEvent.TheVariants as device
@@ -73,19 +72,6 @@ abbrev pub is_restart : Event → Bool
 is_restart (event.Device device.Restart) = true
 is_restart _ = false
 
--- a flush that answered: no point of a commit for room is left
-
-abbrev pub is_flush : Event → Bool
-is_flush (event.Call call.Flush) = true
-is_flush _ = false
-
-abbrev pub is_count : Shown → Bool
-is_count (shown.Count n) = true
-is_count _ = false
-
-abbrev pub is_flushed : Event → Answer → Bool
-is_flushed e a = is_flush e && is_count a.shown
-
 abbrev pub is_resumed : Shown → Bool
 is_resumed (shown.Resumed n k) = true
 is_resumed _ = false
@@ -102,7 +88,3 @@ resumes_next rest = begins (codes "= resumed ") rest && ends_in_digits (drop 10 
 -- a restart resumed, and the report goes on with one that did
 abbrev pub both_resume : Event → Answer → List ℕ → Bool
 both_resume e a rest = is_restart e && is_resumed a.shown && resumes_next rest
-
--- a flush that answered, or a restart that resumed: one point is left, that of all changes
-abbrev pub makes_point : Event → Answer → Bool
-makes_point e a = (is_restart e && is_resumed a.shown) || is_flushed e a

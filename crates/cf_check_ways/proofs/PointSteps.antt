@@ -1,11 +1,10 @@
 -- What an event does to the points that a restart may open.
-use Rattle.std.proofs.Common.{◌≡◌, ◌⊎◌, ℕ, true, [], ◌∷◌, refl, sym, ◌∙◌, ap, subst, inl, inr}
+use Rattle.std.proofs.Common.{◌≡◌, ◌⊎◌, ℕ, true, [], refl, sym, ◌∙◌, ap, subst, inl, inr}
 use Rattle.std.specs.Prelude.{Option, Some, None}
 use Rattle.cf_base.specs.declared.answers.Answer.{Answer}
 use Rattle.cf_base.specs.declared.answers.OpenedBook.{OpenedBook}
 use Rattle.cf_base.specs.declared.answers.Shown.{Shown}
 use Rattle.cf_base.specs.declared.answers.Shown.TheVariants as shown
-use Rattle.cf_base.specs.declared.calls.Call.TheVariants as call
 use Rattle.cf_base.specs.declared.codes.Code.{Code}
 use Rattle.cf_base.specs.declared.codes.Code.TheVariants as code
 use Rattle.cf_base.specs.declared.events.DeviceEvent.TheVariants as device
@@ -13,13 +12,10 @@ use Rattle.cf_base.specs.declared.events.Event.{Event}
 use Rattle.cf_base.specs.declared.events.Event.TheVariants as event
 use Rattle.cf_base.specs.declared.events.PeerEvent.{PeerEvent}
 use Rattle.cf_base.specs.declared.policies.Mode.{Mode}
-use Rattle.cf_model.specs.Arrows.{reading}
-use Rattle.cf_model.specs.Calls.{count_now, flush, show_count}
 use Rattle.cf_model.specs.Events.{answer_in, begun, needs_volume, no_volume, tree_of}
 use Rattle.cf_model.specs.Lawful.{IsStep}
-use Rattle.cf_model.specs.Points.{HasPoints, commit, point_now, with_sure_point}
-use Rattle.cf_model.specs.Restarts.{with_opened}
-use Rattle.cf_model.specs.State.{Broken, Filter, Off, On, Point, Power, State, Volume, in_volume, with_filter, with_volume}
+use Rattle.cf_model.specs.Points.{HasPoints}
+use Rattle.cf_model.specs.State.{State}
 use Rattle.cf_model.specs.Trees.{Ends}
 use Rattle.cf_model.proofs.MessagesKeep.{asked_keeps}
 use Rattle.cf_model.proofs.PeersKeep.{peer_event_keeps}
@@ -28,8 +24,8 @@ use Rattle.cf_check_ways.specs.Ways.{HadRoom, BecomesSure, FirstFits, IsLaden, I
 use Rattle.cf_check_ways.proofs.EngineEventsSure.{engine_event_sure}
 use Rattle.cf_check_ways.proofs.EventsSure.{call_now_sure, provider_event_sure}
 use Rattle.cf_check_ways.proofs.RoomPoints.{restart_fits, restart_laden, restarts_share, resumed_where}
-use Rattle.cf_check_ways.proofs.RestartsSure.{crash_sure, opened_by, restart_lines, restart_quiet}
-use Rattle.cf_check_ways.proofs.Sure.{becomes_same, had_same, same_points, ends_of_mapped, ends_split, sure_ret}
+use Rattle.cf_check_ways.proofs.RestartsSure.{crash_sure, restart_lines, restart_quiet}
+use Rattle.cf_check_ways.proofs.Sure.{becomes_same, had_same, same_points, sure_ret}
 use Rattle.cf_check_ways.proofs.StepsSure.{Stopped, StepOf, begun_alike, cut_is_stopped, step_of}
 
 peer_core : (e : PeerEvent) (s : State) (r : Shown) (t : State) → Ends (tree_of (event.Peer e) s) r t → core_of t.filter.volume ≡ core_of s.filter.volume
@@ -176,43 +172,3 @@ restart_told m o b u k = by (step_of m o (event.Device device.Restart) b u k)
     by : StepOf None o (event.Device device.Restart) b u → b.notes ≡ []
     by (inl x) = ended x.0 x.1 x.2
     by (inr x) = ap (λ (z : Answer). z.notes) x.4 ∙ restart_quiet (begun o) x.1 x.2
-
--- a flush that answered leaves one point, that of all changes
-
-flushed_volume : (s : Filter) (r : Shown) (t : Filter) → Ends (flush s) r t → t.volume ≡ with_sure_point s.volume
-flushed_volume s r t h =
-    let x = ends_split (in_volume commit s) (λ _. reading count_now show_count) r t h in
-    let y = ends_of_mapped (λ (w : Volume). with_volume w s) (commit s.volume) x.0 x.1 x.2 in
-    ap (λ (z : Filter). z.volume) x.3.1 ∙ ap (λ (z : Filter). z.volume) y.2 ∙ y.1.1
-
-pub flush_points : (m : Mode) (s : State) (a : Answer) (t : State) (n : ℕ) → IsStep m s (event.Call call.Flush) a t → a.shown ≡ shown.Count n → t.filter.volume.points ≡ point_now true t.filter.volume ∷ []
-flush_points m s a t n h is = by (no_volume (needs_volume (event.Call call.Flush)) s.power) (step_of m s (event.Call call.Flush) a t h)
-  where
-    by : (why : Option Code) → StepOf why s (event.Call call.Flush) a t → t.filter.volume.points ≡ point_now true t.filter.volume ∷ []
-    by (Some c) x = let z : shown.Refused c ≡ shown.Count n = sym (ap (λ (y : Answer). y.shown) x.0) ∙ is in absurd cc
-    by None (inr stop) = let z : shown.Refused code.Device ≡ shown.Count n = sym (cut_is_stopped s (event.Call call.Flush) a t stop) ∙ is in absurd cc
-    by None (inl x) =
-        let y = ends_of_mapped (λ (g : Filter). with_filter g (begun s)) (flush (begun s).filter) x.0 t x.1 in
-        let left : t.filter.volume ≡ with_sure_point (begun s).filter.volume = ap (λ (z : State). z.filter.volume) y.2 ∙ flushed_volume (begun s).filter x.0 y.0 y.1 in
-        subst (λ (v : Volume). v.points ≡ point_now true v ∷ []) (sym left) refl
-
--- the volume is on after it
-pub flush_power : (m : Mode) (s : State) (a : Answer) (t : State) (n : ℕ) → IsStep m s (event.Call call.Flush) a t → a.shown ≡ shown.Count n → t.power ≡ On
-flush_power m s a t n h is = by s.power refl (step_of m s (event.Call call.Flush) a t h)
-  where
-    refused : (c : Code) → StepOf (Some c) s (event.Call call.Flush) a t → ⊥
-    refused c x = let z : shown.Refused c ≡ shown.Count n = sym (ap (λ (y : Answer). y.shown) x.0) ∙ is in cc
-
-    by : (p : Power) → s.power ≡ p → StepOf (no_volume true p) s (event.Call call.Flush) a t → t.power ≡ On
-    by On on (inl x) = let y = ends_of_mapped (λ (g : Filter). with_filter g (begun s)) (flush (begun s).filter) x.0 t x.1 in ap (λ (z : State). z.power) y.2 ∙ on
-    by On on (inr stop) = let z : shown.Refused code.Device ≡ shown.Count n = sym (cut_is_stopped s (event.Call call.Flush) a t stop) ∙ is in absurd cc
-    by Broken off x = absurd (refused code.Broken x)
-    by Off off x = absurd (refused code.Off x)
-
--- a restart that resumed has opened a point
-pub restart_opens : (m : Mode) (s : State) (a : Answer) (t : State) (n : ℕ) (o : OpenedBook) → IsStep m s (event.Device device.Restart) a t → a.shown ≡ shown.Resumed n o → (p : Point) × (epoch : ℕ) × (t ≡ with_opened p epoch (begun s))
-restart_opens m s a t n o h is = by (step_of m s (event.Device device.Restart) a t h)
-  where
-    by : StepOf None s (event.Device device.Restart) a t → (p : Point) × (epoch : ℕ) × (t ≡ with_opened p epoch (begun s))
-    by (inl x) = opened_by (begun s) x.0 t n o x.1 (sym (ap (λ (y : Answer). y.shown) x.2) ∙ is)
-    by (inr stop) = let z : shown.Refused code.Device ≡ shown.Resumed n o = sym (cut_is_stopped s (event.Device device.Restart) a t stop) ∙ is in absurd cc
