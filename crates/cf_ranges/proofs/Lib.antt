@@ -1,4 +1,5 @@
 pub mod Blocks
+pub mod Joins
 pub mod Loops
 pub mod Maps
 pub mod One

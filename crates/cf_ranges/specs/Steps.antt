@@ -1,5 +1,5 @@
 -- What the code computes, as functions on lists of runs.
-use Rattle.std.specs.Prelude.{ℕ, ◌+◌, ◌-◌, ◌/◌, cond, List, [], ◌∷◌, max, min, nat_lt}
+use Rattle.std.specs.Prelude.{ℕ, suc, ◌+◌, ◌-◌, ◌/◌, cond, List, [], ◌∷◌, max, min, nat_le, nat_lt}
 use Rattle.cf_base.specs.declared.spans.Span.{Span}
 
 abbrev pub span : ℕ → ℕ → Span
@@ -31,3 +31,13 @@ missing_of at end (r ∷ rs) = piece at (min r.start end) (missing_of (max at (r
 abbrev pub blocks_from : ℕ → List Span → ℕ
 blocks_from next [] = 0
 blocks_from next (r ∷ rs) = ((r.start + r.len + 4095) / 4096 - max next (r.start / 4096)) + blocks_from ((r.start + r.len + 4095) / 4096) rs
+
+-- how many runs begin by the position
+abbrev pub begun : ℕ → List Span → ℕ
+begun at [] = 0
+begun at (r ∷ rs) = cond (nat_le r.start at) (suc (begun at rs)) 0
+
+-- how many runs end before the position
+abbrev pub ended : ℕ → List Span → ℕ
+ended at [] = 0
+ended at (r ∷ rs) = cond (nat_lt (r.start + r.len) at) (suc (ended at rs)) 0

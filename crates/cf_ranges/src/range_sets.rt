@@ -2,7 +2,7 @@
 ghost use Rattle.std.specs.Prelude.{◌≡◌, ℕ, true, ◌+◌, ◌*◌, ◌^◌, ◌≤◌, ◌<◌, ◌↔◌, [], OnOk, OnErr, IfOk, IfSome, IfNone, IsTrue};
 ghost use Rattle.cf_ranges.specs.Positions.{contains, Adds, AddsAll, Cuts, CutsAll, HasBlock, IsBelow, IsMissing, IsRuns, touched, touches};
 
-use crate::run_lists::{are_runs, blocks, has, missing_in, touches, with_span, without_span};
+use crate::run_lists::{are_runs, blocks, has, missing_in, put_span, touches, without_span};
 use cf_base::{OutOfMemory, Span};
 use std::alloc::Global;
 use std::marker::Model;
@@ -50,7 +50,7 @@ impl RangeSet {
         }
     }
 
-    /// Adds the positions of a span, in time linear in the number of runs. Without memory the set is as before.
+    /// Adds the positions of a span. By a binary search; the runs that it meets become one, in place. Without memory the set is as before.
     #[tactic(auto, using(crate::proofs::Sets::contains_added, crate::proofs::Sets::runs_added))]
     pub fn add(&mut self, span: Span) -> Result<(), OutOfMemory>
         requires { span.start + span.len ≤ 2 ^ 40 }
@@ -58,7 +58,7 @@ impl RangeSet {
         ensures err { OnErr result (self.new ≡ self.old) }
     {
         if span.len > 0 {
-            self.runs = with_span(self.alloc, &self.runs, span)?;
+            put_span(&mut self.runs, span)?;
         }
         Ok(())
     }

@@ -1,7 +1,9 @@
 //! Lists of maximal runs in order.
-ghost use Rattle.std.specs.Prelude.{◌≡◌, ℕ, ◌+◌, ◌-◌, ◌^◌, ◌≤◌, ◌<◌, ◌++◌, ◌||◌, ◌↔◌, [], drop, length, nat_lt, OnOk, IfOk, IsTrue};
+ghost use Rattle.std.specs.Prelude.{◌≡◌, ℕ, ◌+◌, ◌-◌, ◌^◌, ◌≤◌, ◌<◌, ◌++◌, ◌||◌, ◌↔◌, [], drop, get_or, length, max, min, nat_lt, OnOk, OnErr, IfOk, IsTrue};
+ghost use Rattle.std.specs.List.{remove_range};
+ghost use Rattle.cf_base.specs.declared.spans.Span.{Span as Run};
 ghost use Rattle.cf_ranges.specs.Positions.{contains, IsRuns, touches};
-ghost use Rattle.cf_ranges.specs.Steps.{added, piece, cut_of, missing_of, blocks_from};
+ghost use Rattle.cf_ranges.specs.Steps.{added, begun, blocks_from, cut_of, ended, missing_of, piece, span as span_of};
 
 use cf_base::{OutOfMemory, Span};
 use std::alloc::Global;
@@ -72,37 +74,79 @@ pub(crate) fn blocks(runs: &[Span]) -> u64
     count
 }
 
-// One pass: the runs that the span meets are joined with it.
-#[tactic(auto, using(crate::proofs::Sets::small_runs))]
-pub(crate) fn with_span(alloc: Global, runs: &[Span], span: Span) -> Result<Vec<Span>, OutOfMemory>
-    requires runs { IsRuns runs.now }
-    requires some { 0 < span.len }
-    requires small { span.start + span.len ≤ 2 ^ 40 }
-    ensures { IfOk result (λ v. v.items ≡ added span.start (span.start + span.len) runs.now) }
+// How many runs begin by the position.
+fn begun(runs: &[Span], at: u64) -> usize
+    requires { IsRuns runs.now }
+    ensures count { result ≡ begun at runs.now }
+    ensures bound { result ≤ length runs.now }
 {
-    let mut out = Vec::new(alloc);
-    let mut start = span.start;
-    let mut end = span.start + span.len;
-    for (i, run) in runs.iter().enumerate() {
-        if run.start + run.len < start {
-            out.push(*run)?;
-        } else if end < run.start {
-            out.push(Span {
-                start,
-                len: end - start,
-            })?;
-            out.extend_from_slice(&runs[i..])?;
-            return Ok(out);
-        } else {
-            start = start.min(run.start);
-            end = end.max(run.start + run.len);
-        }
+    runs.partition_point(|run| run.start <= at)
+}
+
+// How many runs end before the position.
+fn ended(runs: &[Span], at: u64) -> usize
+    requires { IsRuns runs.now }
+    ensures count { result ≡ ended at runs.now }
+    ensures bound { result ≤ length runs.now }
+{
+    let next = begun(runs, at);
+    if next == 0 {
+        return 0;
     }
-    out.push(Span {
+    let run = runs[next - 1];
+    if at - run.start > run.len {
+        next
+    } else {
+        next - 1
+    }
+}
+
+// The run that a span and the runs that it meets make, which are those from first on and before last.
+#[tactic(auto, using(crate::proofs::Sets::small_runs))]
+fn joined(runs: &[Span], span: Span, first: usize, last: usize) -> Span
+    requires runs { IsRuns runs.now }
+    requires small { span.start + span.len ≤ 2 ^ 40 }
+    requires some { first < last }
+    requires within { last ≤ length runs.now }
+    ensures { (d : Run) → result ≡ span_of (min span.start (get_or runs.now first d).start) (max (span.start + span.len) ((get_or runs.now (last - 1) d).start + (get_or runs.now (last - 1) d).len)) }
+{
+    let start = span.start.min(runs[first].start);
+    let run = runs[last - 1];
+    let end = (span.start + span.len).max(run.start + run.len);
+    Span {
         start,
         len: end - start,
-    })?;
-    Ok(out)
+    }
+}
+
+// Takes the runs of a range of places out. Those behind it move.
+fn take_out(runs: &mut Vec<Span>, from: usize, to: usize)
+    requires order { from ≤ to }
+    requires within { to ≤ length runs.old.items }
+    ensures { runs.new.items ≡ remove_range runs.old.items from to }
+{
+    let kept = runs.len() - (to - from);
+    runs.copy_within(to.., from);
+    runs.truncate(kept);
+}
+
+// In place: the runs that the span meets become one with it. Takes memory where it meets none.
+pub(crate) fn put_span(runs: &mut Vec<Span>, span: Span) -> Result<(), OutOfMemory>
+    requires runs { IsRuns runs.old.items }
+    requires some { 0 < span.len }
+    requires small { span.start + span.len ≤ 2 ^ 40 }
+    ensures ok { OnOk result (runs.new.items ≡ added span.start (span.start + span.len) runs.old.items) }
+    ensures err { OnErr result (runs.new.items ≡ runs.old.items) }
+{
+    let first = ended(runs, span.start);
+    let last = begun(runs, span.start + span.len);
+    if first >= last {
+        runs.insert(first, span)?;
+        return Ok(());
+    }
+    runs[first] = joined(runs, span, first, last);
+    take_out(runs, first + 1, last);
+    Ok(())
 }
 
 // One pass: of each run, what lies before the span and what lies behind it.

@@ -1,4 +1,4 @@
-use Rattle.std.proofs.Common.{◌-◌, leb, arith, rules}
+use Rattle.std.proofs.Common.{leb, arith, rules}
 use Rattle.std.proofs.lemmas.List.Sorted.{IsPartitionPoint-from_clause}
 use Rattle.cf_base.specs.declared.spans.Span.{Span}
 use Rattle.cf_ranges.proofs.Search.{parted}
