@@ -83,7 +83,7 @@ impl ExtentMap {
         ensures { IfOk result (λ m. m ≡ self.now) }
     {
         Ok(ExtentMap {
-            pairs: self.pairs.clone()?,
+            pairs: Vec::from_slice(*self.pairs.allocator(), &self.pairs)?,
         })
     }
 }

@@ -81,7 +81,7 @@ impl RangeSet {
         ensures { IfOk result (λ r. r ≡ self.now) }
     {
         Ok(RangeSet {
-            runs: self.runs.to_vec(self.alloc)?,
+            runs: Vec::from_slice(self.alloc, &self.runs)?,
             alloc: self.alloc,
         })
     }
