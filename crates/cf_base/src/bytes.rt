@@ -45,7 +45,7 @@ impl Blob {
     pub fn copy(&self) -> Result<Blob, OutOfMemory>
         ensures { IfOk result (λ b. b ≡ self.now) }
     {
-        Ok(self.clone()?)
+        Blob::from_slice(*self.bytes.allocator(), &self.bytes)
     }
 }
 

@@ -27,7 +27,11 @@ impl Model for Name {
 fn is_name_byte(byte: u8) -> bool
     ensures { result ≡ is_name_byte byte }
 {
-    byte >= 32 && byte != 127 && !b"/\\:*?\"<>|".contains(&byte)
+    match byte {
+        0..=31 | 127 => false,
+        b'"' | b'*' | b'/' | b':' | b'<' | b'>' | b'?' | b'\\' | b'|' => false,
+        _ => true,
+    }
 }
 
 fn all_name_bytes(name: &[u8]) -> bool
@@ -84,7 +88,8 @@ impl Name {
     pub fn copy(&self) -> Result<Name, OutOfMemory>
         ensures { IfOk result (λ n. n ≡ self.now) }
     {
-        Ok(self.clone()?)
+        let bytes = Vec::from_slice(*self.bytes.allocator(), &self.bytes)?;
+        Ok(Name { bytes })
     }
 }
 
@@ -131,6 +136,6 @@ impl Identity {
     pub fn copy(&self) -> Result<Identity, OutOfMemory>
         ensures { IfOk result (λ i. i ≡ self.now) }
     {
-        Ok(self.clone()?)
+        Identity::new(*self.bytes.allocator(), &self.bytes)
     }
 }
