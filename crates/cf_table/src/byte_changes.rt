@@ -129,11 +129,10 @@ impl Row {
         let size = self.size as u64;
         let start = span.start.min(size);
         let end = (span.start + span.len).min(size);
-        let here = self.here.with(Span {
+        self.here.add(Span {
             start,
             len: end - start,
         })?;
-        self.here = here;
         Ok(())
     }
 

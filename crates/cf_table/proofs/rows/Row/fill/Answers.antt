@@ -9,4 +9,4 @@ returns-clause-ok c = λ i bytes l m.
     let s : Span = record { start = c.min-start.result; len = c.min-end.result - c.min-start.result } in
     means _ _ (told c.args.self.now i m)
     (fill_bytes c.args.self.now _ s c.args.span.start i bytes c.min-start.ensures (omega (arith, c.min-start.ensures, c.min-end.ensures, l)) refl refl refl refl
-    c.in_ok-here.ensures refl refl refl m.bytes)
+    c.in_ok-add.ensures.ok refl refl refl m.bytes)
