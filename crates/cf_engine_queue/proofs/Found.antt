@@ -1,6 +1,6 @@
 -- What is found by its key among the records of a book is what the book has.
 use Rattle.std.proofs.Common.{◌≡◌, ℕ, zero, suc, ◌<◌, ◌^◌, Bool, true, false, nat_lt, ◌==◌, List, [], ◌∷◌, ◌++◌, map, Option, Some, None, inl, inr, refl, sym, ap, ◌∙◌, subst, arith, cond}
-use Rattle.std.specs.Prelude.{codes, find, option_map}
+use Rattle.std.specs.Prelude.{Err, IfOk, Ok, Result, codes, find, option_map}
 use Rattle.std.specs.List.{AllByRecursion}
 use Rattle.std.proofs.lemmas.Bool.{cases_Bool, lt-ltb}
 use Rattle.cf_base.specs.declared.answers.AuxRecord.{AuxRecord}
@@ -8,9 +8,10 @@ use Rattle.cf_base.specs.declared.ids.ItemId.{ItemId}
 use Rattle.cf_base.specs.declared.ids.Token.{Token}
 use Rattle.cf_base.specs.declared.ids.Usn.{Usn}
 use Rattle.cf_base.specs.declared.items.SeenPath.{SeenPath}
+use Rattle.cf_base.specs.declared.memory.OutOfMemory.{OutOfMemory as NoMemory}
 use Rattle.cf_model.specs.Books.{Book, QueueEntry, Tombstone, aux_records, cursor_records, entry_of, entry_record, key_bytes, seen_of, seen_record, tombstone_of, tombstone_record, usn_bytes}
 use Rattle.cf_model.specs.Numbers.{same_key, same_usn}
-use Rattle.cf_model.specs.Words.{comes_before, in_bytes, same, when}
+use Rattle.cf_model.specs.Words.{comes_before, in_bytes, same, says, when}
 use Rattle.cf_engine_queue.specs.Books.{number_rank, path_rank, token_rank}
 use Rattle.cf_engine_queue.specs.Keys.{AreByKey, record_at}
 use Rattle.cf_engine_queue.specs.Order.{IsRising, is_above}
@@ -153,6 +154,20 @@ module _ (b : Book) (k : IsKeepable b) (rs : List AuxRecord) (same_records : rs 
 
   pub seen_none : (item : ItemId) → item.0 < 2 ^ 64 → key ≡ codes "s" ++ in_bytes 8 item.0 → o ≡ None → None ≡ seen_of b item
   seen_none item fits is none = said_none seen_record (seen_of b item) (sym none ∙ looked (codes "s" ++ in_bytes 8 item.0) is ∙ seen_at b item k fits)
+
+  seen_there : (item : ItemId) (r : AuxRecord) (q : Option SeenPath) → q ≡ seen_of b item → Some r ≡ option_map seen_record q → (p : SeenPath) × (q ≡ Some p) × IsSeen r p
+  seen_there item r None is e = let bad : Some r ≡ None = e in cc
+  seen_there item r (Some p) is e = (p, refl, record { fits = found_fits FitsSeen (λ q. q.item.0 == item.0) b.seen p k.seen (sym is); spelled = inside r (seen_record p) e })
+
+  -- a test of what is seen, where it is so of each path that the record says
+  seen_says : (test : SeenPath → Bool) (item : ItemId) (r : AuxRecord) (t : Bool) → item.0 < 2 ^ 64 → key ≡ codes "s" ++ in_bytes 8 item.0 → o ≡ Some r → ((p : SeenPath) → IsSeen r p → t ≡ test p) → t ≡ says test (seen_of b item)
+  seen_says test item r t fits is some h =
+      let there = seen_there item r (seen_of b item) refl (sym some ∙ looked (codes "s" ++ in_bytes 8 item.0) is ∙ seen_at b item k fits) in
+      h there.0 there.2 ∙ ap (says test) (sym there.1)
+
+  pub if_seen : (test : SeenPath → Bool) (item : ItemId) (r : AuxRecord) (t : Result Bool NoMemory) → item.0 < 2 ^ 64 → key ≡ codes "s" ++ in_bytes 8 item.0 → o ≡ Some r → ((p : SeenPath) → IsSeen r p → IfOk t (λ x. x ≡ test p)) → IfOk t (λ x. x ≡ says test (seen_of b item))
+  if_seen test item r (Ok t) fits is some h = seen_says test item r t fits is some h
+  if_seen test item r (Err e) fits is some h = tt
 
   pub tombstone_some : (number : Usn) (r : AuxRecord) (t : Tombstone) → FitsUsn number → key ≡ codes "t" ++ usn_bytes number → o ≡ Some r → IsTombstone r t → Some t ≡ tombstone_of b number
   tombstone_some number r t fits is some says =

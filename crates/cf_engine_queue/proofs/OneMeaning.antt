@@ -103,6 +103,15 @@ seen_again p f = λ i. record { item = record { 0 = eight_again p.item.0 f.item 
 pub one_seen : (r : AuxRecord) (p q : SeenPath) → IsSeen r p → IsSeen r q → p ≡ q
 one_seen r p q g h = sym (seen_again p g.fits) ∙ ap seen_from (sym g.spelled ∙ h.spelled) ∙ seen_again q h.fits
 
+-- the parts of the record of a path seen
+pub seen_parts : (r : AuxRecord) (p : SeenPath) (number : ℕ) (rest : List ℕ) → IsSeen r p → number < 2 ^ 64 → r.value ≡ in_bytes 8 number ++ rest → (number ≡ p.parent.0) × (rest ≡ p.name)
+unfolding seen_from eight_from
+seen_parts r p number rest h fits is =
+    let from : seen_from r ≡ p = ap seen_from h.spelled ∙ seen_again p h.fits in (
+      sym (eight_again number fits) ∙ ap (λ (v : List ℕ). from_be_bytes w64 (take 8 (drop 0 v))) (sym is) ∙ ap (λ (q : SeenPath). q.parent.0) from,
+      ap (drop 8) (sym is) ∙ ap (λ (q : SeenPath). q.name) from,
+    )
+
 cursor_again : (n : ℕ) → n < 2 ^ 64 → eight_from 0 (in_bytes 8 n) ≡ n
 unfolding eight_from
 cursor_again n lt = eight_again n lt

@@ -5,9 +5,9 @@ use Rattle.std.specs.List.{AllByRecursion, list_any}
 use Rattle.std.specs.List.Sorted.{IsPartitionedBy}
 use Rattle.cf_base.specs.declared.answers.AuxRecord.{AuxRecord}
 use Rattle.cf_model.specs.Books as model
-use Rattle.cf_model.specs.Books.{Book, aux_records, cursor_records, entry_record, seen_record, tombstone_record}
+use Rattle.cf_model.specs.Books.{Book, aux_records, cursor_records, entry_record, no_book, seen_record, tombstone_record}
 use Rattle.cf_model.specs.Words.{is_empty}
-use Rattle.cf_engine_queue.specs.Books.{entry_value, uploads_of}
+use Rattle.cf_engine_queue.specs.Books.{entry_value, removals_of, uploads_of}
 use Rattle.cf_engine_queue.specs.Keys.{is_kind_below}
 use Rattle.cf_engine_queue.specs.Order.{Divides}
 use Rattle.cf_engine_queue.specs.Records.{IsKeepable, queue_of}
@@ -62,7 +62,20 @@ module _ (b : Book) where
       let d = subst (λ (l : List AuxRecord). Divides (is_kind_below 113) n l) same (h (subst (λ (l : List AuxRecord). IsPartitionedBy (is_kind_below 113) l) (sym same) (parted (is_kind_below 113) (cursor_records b.cursor) (map entry_record b.entries) first later))) in
       is ∙ ap (drop n) same ∙ (divided (is_kind_below 113) n (cursor_records b.cursor) (map entry_record b.entries) first later d).1
 
-  -- the book of uploads alone
+  before : AllByRecursion (λ (r : AuxRecord). is_kind_below 116 r ≡ true) (front_of ++ map seen_record b.seen)
+  before = all_both (λ (r : AuxRecord). is_kind_below 116 r ≡ true) front_of (map seen_record b.seen)
+      (all_both (λ (r : AuxRecord). is_kind_below 116 r ≡ true) (cursor_records b.cursor) (map entry_record b.entries) (cursor_is (λ (r : AuxRecord). is_kind_below 116 r ≡ true) b.cursor refl) (all_mapped (λ (r : AuxRecord). is_kind_below 116 r ≡ true) entry_record b.entries (λ e. refl)))
+      (all_mapped (λ (r : AuxRecord). is_kind_below 116 r ≡ true) seen_record b.seen (λ p. refl))
+
+  last : AllByRecursion (λ (r : AuxRecord). is_kind_below 116 r ≡ false) (map tombstone_record b.tombstones)
+  last = all_mapped (λ (r : AuxRecord). is_kind_below 116 r ≡ false) tombstone_record b.tombstones (λ t. refl)
+
+  pub tombstones_are : (rs tombstones : List AuxRecord) (n : ℕ) → rs ≡ aux_records b → (IsPartitionedBy (is_kind_below 116) rs → Divides (is_kind_below 116) n rs) → tombstones ≡ drop n rs → tombstones ≡ map tombstone_record b.tombstones
+  tombstones_are rs tombstones n same h is =
+      let d = subst (λ (l : List AuxRecord). Divides (is_kind_below 116) n l) same (h (subst (λ (l : List AuxRecord). IsPartitionedBy (is_kind_below 116) l) (sym same) (parted (is_kind_below 116) (front_of ++ map seen_record b.seen) (map tombstone_record b.tombstones) before last))) in
+      is ∙ ap (drop n) same ∙ (divided (is_kind_below 116) n (front_of ++ map seen_record b.seen) (map tombstone_record b.tombstones) before last d).1
+
+  -- the book of uploads alone, and that of removals
 
   uploads_keepable : IsKeepable b → IsKeepable (uploads_of b)
   uploads_keepable k = record { cursor = omega arith; entries = k.entries; seen = tt; tombstones = tt; tokens = k.tokens; paths = tt; numbers = tt }
@@ -72,6 +85,15 @@ module _ (b : Book) where
 
   pub uploads_loaded : (rs : List AuxRecord) (q : Book) → IsKeepable b → rs ≡ map entry_record b.entries → ((d : Book) → IsKeepable d → rs ≡ aux_records d → q ≡ queue_of d) → q ≡ uploads_of b
   uploads_loaded rs q k same h = h (uploads_of b) (uploads_keepable k) (same ∙ sym uploads_records)
+
+  removals_keepable : IsKeepable b → IsKeepable (removals_of b)
+  removals_keepable k = record { cursor = omega arith; entries = tt; seen = tt; tombstones = k.tombstones; tokens = tt; paths = tt; numbers = k.numbers }
+
+  pub removals_loaded : (rs : List AuxRecord) (q : Book) → IsKeepable b → rs ≡ map tombstone_record b.tombstones → ((d : Book) → IsKeepable d → rs ≡ aux_records d → q ≡ queue_of d) → q ≡ removals_of b
+  removals_loaded rs q k same h = h (removals_of b) (removals_keepable k) same
+
+  pub both_loaded : (q r both : Book) → q ≡ uploads_of b → r ≡ removals_of b → both ≡ record no_book { entries = q.entries; tombstones = r.tombstones } → both ≡ queue_of b
+  both_loaded q r both uploads removals is = is ∙ (λ i. record no_book { entries = (uploads i).entries; tombstones = (removals i).tombstones })
 
 -- tests
 

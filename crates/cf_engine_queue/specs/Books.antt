@@ -55,3 +55,7 @@ ComesLast e b = AllByRecursion (λ x. is_above (token_rank x) (token_rank e) ≡
 -- a book that has the entries of this one, and nothing else
 abbrev pub uploads_of : Book → Book
 uploads_of b = record no_book { entries = b.entries }
+
+-- and one that has its tombstones, and nothing else
+abbrev pub removals_of : Book → Book
+removals_of b = record no_book { tombstones = b.tombstones }

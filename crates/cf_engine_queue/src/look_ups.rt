@@ -1,6 +1,7 @@
 //! Single records of a book, found by their keys.
 
-ghost use Rattle.std.specs.Prelude.{◌≡◌, ◌++◌, codes, IfOk, option_copied, option_map, slice_get};
+ghost use Rattle.std.specs.Prelude.{◌≡◌, ◌==◌, ◌&&◌, ◌++◌, codes, IfOk, option_copied, option_map, slice_get};
+ghost use Rattle.cf_base.specs.declared.items.SeenPath.{SeenPath as SeenAt};
 ghost use Rattle.cf_model.specs.Books.{Book, aux_records, entry_of, key_bytes, seen_of, tombstone_of, usn_bytes};
 ghost use Rattle.cf_model.specs.Words.{comes_before, in_bytes, same, says};
 ghost use Rattle.cf_engine_queue.specs.Books.{entry_value, tombstone_value};
@@ -8,11 +9,12 @@ ghost use Rattle.cf_engine_queue.specs.Keys.{AreByKey, record_at};
 ghost use Rattle.cf_engine_queue.specs.Order.{Divides};
 ghost use Rattle.cf_engine_queue.specs.Records.{IsCursor, IsEntry, IsKeepable, IsSeen, IsTombstone};
 
+use crate::fields::number_and_rest;
 use crate::record_reads::{read_cursor, read_record};
 use crate::record_writes::{entry_key, seen_key, tombstone_key};
 use crate::records::Record;
 use crate::uploads::{QueueEntry, Tombstone};
-use cf_base::{AuxRecord, ItemId, OutOfMemory, SeenPath, Token, Usn, no_such_state};
+use cf_base::{AuxRecord, ItemId, OutOfMemory, Rid, SeenPath, Token, Usn, no_such_state};
 use std::alloc::Global;
 
 fn is_before(key: &[u8], other: &[u8]) -> bool
@@ -21,10 +23,16 @@ fn is_before(key: &[u8], other: &[u8]) -> bool
     key.cmp(other).is_lt()
 }
 
+fn is_same(bytes: &[u8], other: &[u8]) -> bool
+    ensures { result ≡ same bytes.now other.now }
+{
+    bytes == other
+}
+
 fn has_key(record: &AuxRecord, key: &[u8]) -> bool
     ensures { result ≡ same record.now.key key.now }
 {
-    record.key.as_slice() == key
+    is_same(record.key.as_slice(), key)
 }
 
 // How many records come before one with the key, by halves.
@@ -125,6 +133,40 @@ pub fn find_seen(
     match find_record(records, key.as_slice()) {
         Some(record) => Ok(Some(seen_said(alloc, record)?)),
         None => Ok(None),
+    }
+}
+
+fn is_path(parent: Rid, name: &[u8], number: u64, other: &[u8]) -> bool
+    ensures { result ≡ ((parent.0 == number) && same name.now other.now) }
+{
+    parent.0 == number && is_same(name, other)
+}
+
+// Whether the record of a path seen has this path: under this item of the remote, by this name.
+fn has_path(record: &AuxRecord, parent: Rid, name: &[u8]) -> Result<bool, OutOfMemory>
+    ensures { (p : SeenAt) → IsSeen record.now p → IfOk result (λ x. x ≡ ((parent.0 == p.parent.0) && same name.now p.name)) }
+{
+    match number_and_rest(record.value.as_slice()) {
+        Some((number, rest)) => Ok(is_path(parent, name, number, rest)),
+        None => Err(no_such_state()),
+    }
+}
+
+/// Whether an item was seen at this path, under this item of the remote and by this name, among the records of a book. It takes steps as
+/// the logarithm of their count, and no memory but for a key. Out of memory also where they are the records of no book.
+pub fn is_seen_at(
+    alloc: Global,
+    records: &[AuxRecord],
+    item: ItemId,
+    parent: Rid,
+    name: &[u8],
+) -> Result<bool, OutOfMemory>
+    ensures { (b : Book) → IsKeepable b → records.now ≡ aux_records b → IfOk result (λ x. x ≡ says (λ p. (parent.0 == p.parent.0) && same name.now p.name) (seen_of b item)) }
+{
+    let key = seen_key(alloc, item)?;
+    match find_record(records, key.as_slice()) {
+        Some(record) => has_path(record, parent, name),
+        None => Ok(false),
     }
 }
 

@@ -1,15 +1,15 @@
-//! The uploads on their way, read from the records of a book alone that are theirs.
+//! The uploads on their way and the removals to upload, read from the records of a book alone that are theirs.
 
 ghost use Rattle.std.specs.Prelude.{◌≡◌, ◌≤◌, IfOk, length, map, not};
 ghost use Rattle.std.specs.List.{list_any};
 ghost use Rattle.std.specs.List.Sorted.{IsPartitionedBy};
-ghost use Rattle.cf_model.specs.Books.{Book, aux_records, entry_record};
+ghost use Rattle.cf_model.specs.Books.{Book, aux_records, entry_record, tombstone_record};
 ghost use Rattle.cf_model.specs.PushReplies.{is_new_entry};
 ghost use Rattle.cf_model.specs.Words.{is_empty};
-ghost use Rattle.cf_engine_queue.specs.Books.{entry_value, uploads_of};
+ghost use Rattle.cf_engine_queue.specs.Books.{entry_value, removals_of, uploads_of};
 ghost use Rattle.cf_engine_queue.specs.Keys.{is_kind_below};
 ghost use Rattle.cf_engine_queue.specs.Order.{Divides};
-ghost use Rattle.cf_engine_queue.specs.Records.{IsKeepable};
+ghost use Rattle.cf_engine_queue.specs.Records.{IsKeepable, queue_of};
 
 use crate::queues::Queue;
 use crate::uploads::{Action, QueueEntry};
@@ -43,6 +43,14 @@ fn entry_records(records: &[AuxRecord]) -> &[AuxRecord]
     entries
 }
 
+// The records of tombstones: those of kind `t`, which are the last.
+fn tombstone_records(records: &[AuxRecord]) -> &[AuxRecord]
+    ensures { (b : Book) → records.now ≡ aux_records b → result.now ≡ map tombstone_record b.tombstones }
+{
+    let (_, tombstones) = records.split_at(count_below(records, b't'));
+    tombstones
+}
+
 /// Whether an upload is on its way, by the records of a book. Takes no memory.
 pub fn has_uploads(records: &[AuxRecord]) -> bool
     ensures { (b : Book) → records.now ≡ aux_records b → result ≡ not (is_empty b.entries) }
@@ -59,6 +67,29 @@ pub fn load_uploads(alloc: Global, records: &[AuxRecord]) -> Result<Queue, OutOf
         return Err(no_such_state());
     };
     Ok(queue)
+}
+
+// The removals to upload, without the uploads.
+fn load_tombstones(alloc: Global, records: &[AuxRecord]) -> Result<Queue, OutOfMemory>
+    ensures { (b : Book) → IsKeepable b → records.now ≡ aux_records b → IfOk result (λ q. q ≡ removals_of b) }
+{
+    let Ok(queue) = Queue::load(alloc, tombstone_records(records)) else {
+        return Err(no_such_state());
+    };
+    Ok(queue)
+}
+
+/// The uploads on their way and the removals to upload, by the records of a book. It takes time by them, and passes the paths seen over.
+/// Out of memory also where they are the records of no book.
+pub fn load_pending(alloc: Global, records: &[AuxRecord]) -> Result<Queue, OutOfMemory>
+    ensures { (b : Book) → IsKeepable b → records.now ≡ aux_records b → IfOk result (λ q. q ≡ queue_of b) }
+{
+    let uploads = load_uploads(alloc, records)?;
+    let Ok(removals) = load_tombstones(alloc, records) else {
+        drop(uploads);
+        return Err(OutOfMemory);
+    };
+    Ok(uploads.with_tombstones_of(removals))
 }
 
 fn is_new(entry: &QueueEntry) -> bool

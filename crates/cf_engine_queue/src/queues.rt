@@ -113,6 +113,26 @@ impl Queue {
         self.tombstones.as_slice()
     }
 
+    /// The entries of this queue, with the tombstones of the other.
+    pub(crate) fn with_tombstones_of(self, other: Queue) -> Queue
+        ensures { result ≡ record no_book { entries = self.entries; tombstones = other.tombstones } }
+    {
+        let Queue {
+            entries,
+            tombstones: without,
+        } = self;
+        let Queue {
+            entries: left,
+            tombstones,
+        } = other;
+        drop(without);
+        drop(left);
+        Queue {
+            entries,
+            tombstones,
+        }
+    }
+
     /// Adds the entry behind those whose tokens are not above its own; at the end where none is. Without memory the queue is
     /// as before.
     #[tactic(auto, using(crate::proofs::Mapped::placed, crate::proofs::Mapped::added_last))]
