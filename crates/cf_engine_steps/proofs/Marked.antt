@@ -1,14 +1,13 @@
 -- Items that are marked, by what was tested of them.
-use Rattle.std.proofs.Common.{◌≡◌, Bool, true, false, not, refl, sym, ◌∙◌, ap}
+use Rattle.std.proofs.Common.{◌≡◌, ℕ, Bool, true, false, not, List, refl, sym, ◌∙◌, ap}
 use Rattle.std.specs.Prelude.{Result, Ok, Option, Some, None, ◌==◌, ◌&&◌}
 use Rattle.cf_base.specs.declared.changes.Change.TheVariants as change
 use Rattle.cf_base.specs.declared.codes.CallError.{CallError}
 use Rattle.cf_base.specs.declared.ids.ItemId.{ItemId}
 use Rattle.cf_base.specs.declared.ids.Rid.{Rid}
 use Rattle.cf_base.specs.declared.ids.Usn.{Usn}
-use Rattle.cf_base.specs.declared.items.SeenPath.{SeenPath}
 use Rattle.cf_engine_steps.specs.Answering.{Answers, Any}
-use Rattle.cf_engine_steps.specs.BookReads.{seen_in}
+use Rattle.cf_engine_steps.specs.BookReads.{is_seen_in}
 use Rattle.cf_engine_steps.specs.Marks.{IsParentTarget, IsTarget, StandsIf, is_markable_at, number_at}
 use Rattle.cf_engine_steps.specs.States.{Own, whole}
 use Rattle.cf_engine_steps.proofs.Laws.{reads_on, returned}
@@ -16,11 +15,11 @@ use Rattle.cf_engine_steps.proofs.Lifting.{lift_reads}
 use Rattle.cf_filter_steps.proofs.RowReads.{row_gone, row_read, row_there}
 use Rattle.cf_filter_steps.specs.Answering as steps
 use Rattle.cf_filter_steps.specs.Finding.{HasRows}
-use Rattle.cf_model.specs.Identities.{is_untargeted, stands_at_path, stands_at_seen, target_of}
+use Rattle.cf_model.specs.Books.{seen_of}
+use Rattle.cf_model.specs.Identities.{is_untargeted, stands_at_seen, target_of}
 use Rattle.cf_model.specs.Items.{Item, is_dirty, item_of}
 use Rattle.cf_model.specs.Numbers.{no_rid, no_usn, same_usn}
 use Rattle.cf_model.specs.Skips.{is_markable, mark_if, may_mark, number_of_item, try_change, try_mark, try_mark_now}
-use Rattle.cf_model.specs.State.{Filter}
 use Rattle.cf_model.specs.Words.{part, same, says}
 use Rattle.cf_remote.specs.Told.{Told}
 use Rattle.cf_table.specs.Means.{Means}
@@ -42,18 +41,10 @@ module _ {X : Type 0} (S : steps.Sense X) (x : X) (t : Table) (row : Row) (rows 
 
 -- paths seen
 
-module _ {X : Type 0} (S : steps.Sense X) (x : X) (row : Row) (parent : Rid) (o : Option SeenPath) (above : IsParentTarget S row x parent) (seen : steps.Reads S steps.Any (seen_in row.id) x o) where
-  seen_so : (s : Filter) (i : Item) → S.means x s → Means row i → o ≡ seen_in i.id s
-  seen_so s i h m = seen.is s h (record {}) ∙ ap (λ (k : ItemId). seen_in k s) m.id
-
-  pub stands_by : (path : SeenPath) (b : Bool) → o ≡ Some path → b ≡ ((parent.0 == path.parent.0) && same row.name path.name) → StandsIf S row x b
-  stands_by path b e is = record {
-    is = λ s i h m.
-        is ∙ (λ k. (((above.is s i h m) k).0 == path.parent.0) && same (m.name k) path.name) ∙ ap (λ (q : Option SeenPath). says (stands_at_path s.volume.items i) q) (sym e ∙ seen_so s i h m);
-  }
-
-  pub stands_not : o ≡ None → StandsIf S row x false
-  stands_not e = record { is = λ s i h m. ap (λ (q : Option SeenPath). says (stands_at_path s.volume.items i) q) (sym e ∙ seen_so s i h m) }
+pub stands_by : {X : Type 0} (S : steps.Sense X) (x : X) (row : Row) (parent : Rid) (name : List ℕ) (b : Bool) → IsParentTarget S row x parent → name ≡ row.name → steps.Reads S steps.Any (is_seen_in row.id parent name) x b → StandsIf S row x b
+stands_by S x row parent name b above same_name seen = record {
+  is = λ s i h m. seen.is s h (record {}) ∙ (λ k. says (λ p. (((above.is s i h m) k).0 == p.parent.0) && same ((same_name ∙ m.name) k) p.name) (seen_of s.volume.book (m.id k)));
+}
 
 -- all tests of a mark
 

@@ -1,5 +1,5 @@
 -- What the engine reads of the book of a filter.
-use Rattle.std.specs.Prelude.{◌==◌, ℕ, Bool, not, Option}
+use Rattle.std.specs.Prelude.{◌==◌, ◌&&◌, ℕ, Bool, not, List, Option}
 use Rattle.std.specs.List.{list_any}
 use Rattle.cf_base.specs.declared.ids.ItemId.{ItemId}
 use Rattle.cf_base.specs.declared.ids.Rid.{Rid}
@@ -10,13 +10,17 @@ use Rattle.cf_engine_queue.specs.Records as queue
 use Rattle.cf_model.specs.Books.{Book, QueueEntry, Tombstone, entry_of, seen_of, tombstone_of}
 use Rattle.cf_model.specs.PushReplies.{is_new_entry}
 use Rattle.cf_model.specs.State.{Filter}
-use Rattle.cf_model.specs.Words.{is_empty}
+use Rattle.cf_model.specs.Words.{is_empty, same, says}
 
 abbrev pub entry_in : Token → Filter → Option QueueEntry
 entry_in token s = entry_of s.volume.book token
 
 abbrev pub seen_in : ItemId → Filter → Option SeenPath
 seen_in item s = seen_of s.volume.book item
+
+-- the item was seen under this item of the remote, by this name
+abbrev pub is_seen_in : ItemId → Rid → List ℕ → Filter → Bool
+is_seen_in item parent name s = says (λ p. (parent.0 == p.parent.0) && same name p.name) (seen_of s.volume.book item)
 
 abbrev pub tombstone_in : Usn → Filter → Option Tombstone
 tombstone_in number s = tombstone_of s.volume.book number

@@ -2,14 +2,14 @@
 
 ghost use Rattle.std.specs.Prelude.{IfOk, option_map};
 ghost use Rattle.cf_engine_queue.specs.Books.{entry_value, tombstone_value};
-ghost use Rattle.cf_engine_steps.specs.BookReads.{cursor_in, entry_in, has_entries_in, has_entry_in, has_new_entry_in, has_target_entry_in, queue_in, seen_in, tombstone_in};
+ghost use Rattle.cf_engine_steps.specs.BookReads.{cursor_in, entry_in, has_entries_in, has_entry_in, has_new_entry_in, has_target_entry_in, is_seen_in, queue_in, seen_in, tombstone_in};
 ghost use Rattle.cf_filter_steps.specs.Answering.{Any as AnyFilter, Reads as FilterReads};
 
-use cf_base::{ItemId, OutOfMemory, Rid, SeenPath, Token, Usn, no_such_state};
+use cf_base::{ItemId, OutOfMemory, Rid, SeenPath, Token, Usn};
 use cf_engine_host::EngineHost;
 use cf_engine_queue::{
     Queue, QueueEntry, Tombstone, find_cursor, find_entry, find_seen, find_tombstone, has_uploads,
-    sends_new,
+    is_seen_at as find_path, load_pending, sends_new,
 };
 use cf_volume_image::NumberPlace;
 
@@ -27,6 +27,18 @@ pub fn seen<S: EngineHost>(s: &S, item: ItemId) -> Result<Option<SeenPath>, OutO
     find_seen(s.alloc(), s.records(), item)
 }
 
+/// Whether an item was seen at this path of the remote. As `live_entry`.
+pub fn is_seen_at<S: EngineHost>(
+    s: &S,
+    item: ItemId,
+    parent: Rid,
+    name: &[u8],
+) -> Result<bool, OutOfMemory>
+    ensures { IfOk result (λ x. FilterReads S.sense AnyFilter (is_seen_in item parent name.now) s.now x) }
+{
+    find_path(s.alloc(), s.records(), item, parent, name)
+}
+
 /// The tombstone with this number. As `live_entry`.
 pub fn tombstone<S: EngineHost>(s: &S, number: Usn) -> Result<Option<Tombstone>, OutOfMemory>
     ensures { IfOk result (λ o. FilterReads S.sense AnyFilter (tombstone_in number) s.now (option_map tombstone_value o)) }
@@ -41,14 +53,11 @@ pub fn cursor<S: EngineHost>(s: &S) -> Result<u64, OutOfMemory>
     find_cursor(s.records())
 }
 
-/// All uploads on their way and all removals to upload. It takes time by the records.
+/// All uploads on their way and all removals to upload. It takes time by them.
 pub fn queue<S: EngineHost>(s: &S) -> Result<Queue, OutOfMemory>
     ensures { IfOk result (λ q. FilterReads S.sense AnyFilter queue_in s.now q) }
 {
-    let Ok(queue) = Queue::load(s.alloc(), s.records()) else {
-        return Err(no_such_state());
-    };
-    Ok(queue)
+    load_pending(s.alloc(), s.records())
 }
 
 /// Whether an upload is on its way. Takes no memory.
