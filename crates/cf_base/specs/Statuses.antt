@@ -1,7 +1,7 @@
 -- The numbers with which a program ends.
 use Rattle.std.specs.Prelude.{ℕ}
 use Rattle.cf_base.specs.declared.statuses.Status.{Status}
-use Rattle.cf_base.specs.declared.statuses.Status.TheVariants.{Done, Usage, BadScript, SourceFault, SinkFault, BadDevice, OutOfMemory, TooLong, DeviceFault, BadImage, Unlawful, Undecided, Damaged, NotFollowed}
+use Rattle.cf_base.specs.declared.statuses.Status.TheVariants.{Done, Usage, BadScript, SourceFault, SinkFault, BadDevice, OutOfMemory, TooLong, DeviceFault, BadImage, Unlawful, Undecided, Damaged}
 
 -- 1 is left to the toolchain
 abbrev pub exit_number : Status → ℕ
@@ -18,4 +18,3 @@ exit_number BadImage = 10
 exit_number Unlawful = 11
 exit_number Undecided = 12
 exit_number Damaged = 13
-exit_number NotFollowed = 14

@@ -32,8 +32,6 @@ pub enum Status {
     Undecided,
     /// The bytes of a device are damaged.
     Damaged,
-    /// A report goes on where it is not known which answers are lawful.
-    NotFollowed,
 }
 
 impl Status {
@@ -55,7 +53,6 @@ impl Status {
             Status::Unlawful => 11,
             Status::Undecided => 12,
             Status::Damaged => 13,
-            Status::NotFollowed => 14,
         }
     }
 }

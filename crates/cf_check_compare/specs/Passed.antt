@@ -1,5 +1,5 @@
 -- An answer that is held against the rest of a report.
-use Rattle.std.specs.Prelude.{◌≡◌, ◌<◌, ◌≤◌, ◌^◌, ℕ, Bool, true, false, not, List, length, ◌++◌, ◌&&◌, ◌||◌}
+use Rattle.std.specs.Prelude.{◌≡◌, ◌<◌, ◌^◌, ℕ, Bool, true, false, not, List, length, ◌++◌, ◌&&◌, ◌||◌}
 use Rattle.cf_base.specs.declared.answers.Answer.{Answer}
 use Rattle.cf_base.specs.declared.answers.Shown.{Shown}
 use Rattle.cf_base.specs.declared.events.Event.{Event}
@@ -8,7 +8,7 @@ use Rattle.cf_base.specs.declared.notices.Notice.{Notice}
 use Rattle.std.specs.List.{flat_map, list_all}
 use Rattle.cf_check_compare.specs.Alone.{asks_none}
 use Rattle.cf_check_compare.specs.declared.comparisons.Comparison.{Comparison}
-use Rattle.cf_check_compare.specs.declared.comparisons.Comparison.TheVariants.{Differs, GoesOn, Lost, TooLong}
+use Rattle.cf_check_compare.specs.declared.comparisons.Comparison.TheVariants.{Differs, GoesOn, Lost}
 use Rattle.cf_check_text.specs.Clean.{clean_notice, clean_shown, is_clean}
 use Rattle.cf_check_traces.specs.Tests.{begins, fault_line_of_peer, is_device, meets_lines, same_flag}
 use Rattle.cf_check_ways.specs.Ways.{is_fault}
@@ -36,7 +36,6 @@ IsTextOf ns t = (s : Shown) × (list_all clean_notice ns ≡ true) × (clean_sho
 abbrev pub IsCompared : List Notice → List ℕ → List ℕ → Comparison → Type 0
 IsCompared ns expected rest (GoesOn n) = (meets_lines ns rest ≡ true) × (n ≡ length expected) × (n < 2 ^ 31) × (begins expected rest ≡ true)
 IsCompared ns expected rest Differs = (meets_lines ns rest ≡ true) × (length expected < 2 ^ 31) × (begins expected rest ≡ false)
-IsCompared ns expected rest TooLong = (meets_lines ns rest ≡ true) × (2 ^ 31 ≤ length expected)
 IsCompared ns expected rest Lost = meets_lines ns rest ≡ false
 
 -- so of the text of an answer that passes, and lost where it does not

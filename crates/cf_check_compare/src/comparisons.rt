@@ -24,8 +24,6 @@ pub enum Comparison {
     GoesOn(usize),
     /// With other bytes.
     Differs,
-    /// The answer has more than 2,147,483,647 bytes.
-    TooLong,
     /// The answer fails a test that each answer passes which is given by what the report tells of the remote.
     Lost,
 }
@@ -98,9 +96,9 @@ fn meets_result(event: &Event, answer: &Answer, rest: &[u8]) -> bool
     !is_device(&answer.shown) && is_clean(answer) && meets_peer(event, answer, rest)
 }
 
-/// How the report goes on beside an answer to the event. Lost is answered exactly where the answer fails a test that each answer passes which
-/// is given by what the report tells of the remote, and TooLong where it passes them and has more than 2,147,483,647 bytes. Fails where there
-/// is no memory for the text of the answer.
+/// How the report goes on beside an answer to the event. Where it does not fail, it says Lost exactly where the answer fails a test that each
+/// answer passes which is given by what the report tells of the remote. Fails as out of memory where there is no memory for the text of the
+/// answer, or it has more than 2,147,483,647 bytes.
 pub fn compare(
     alloc: Global,
     event: &Event,
@@ -115,20 +113,20 @@ pub fn compare(
     let expected = text(alloc, answer)?;
     let compared = compared(answer.notes.as_slice(), expected.as_slice(), rest);
     drop(expected);
-    Ok(compared)
+    compared
 }
 
-fn compared(notices: &[Notice], expected: &[u8], rest: &[u8]) -> Comparison
+fn compared(notices: &[Notice], expected: &[u8], rest: &[u8]) -> Result<Comparison, OutOfMemory>
     requires { IsTextOf notices.now expected.now }
-    ensures { IsCompared notices.now expected.now rest.now result }
+    ensures { IfOk result (IsCompared notices.now expected.now rest.now) }
 {
     if !meets_lines(notices, expected, rest) {
-        Comparison::Lost
+        Ok(Comparison::Lost)
     } else if expected.len() > MOST_ANSWER {
-        Comparison::TooLong
+        Err(OutOfMemory)
     } else if begins(expected, rest) {
-        Comparison::GoesOn(expected.len())
+        Ok(Comparison::GoesOn(expected.len()))
     } else {
-        Comparison::Differs
+        Ok(Comparison::Differs)
     }
 }

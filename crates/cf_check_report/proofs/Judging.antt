@@ -4,10 +4,11 @@ use Rattle.std.specs.Prelude.{Err, Ok, Option, Result, drop, get_or, not}
 use Rattle.cf_base.specs.declared.answers.Answer.{Answer}
 use Rattle.cf_base.specs.declared.events.Event.{Event}
 use Rattle.cf_base.specs.declared.events.Event.TheVariants as event
+use Rattle.cf_base.specs.declared.memory.OutOfMemory.{OutOfMemory as NoMemory}
 use Rattle.cf_base.specs.declared.policies.Mode.TheVariants as mode
 use Rattle.cf_check_compare.proofs.Alls.{rest_is}
 use Rattle.cf_check_compare.specs.Passed.{IsComparison, is_passed}
-use Rattle.cf_check_compare.specs.declared.comparisons.Comparison.TheVariants.{Differs, GoesOn, Lost, TooLong}
+use Rattle.cf_check_compare.specs.declared.comparisons.Comparison.TheVariants.{Differs, GoesOn, Lost}
 use Rattle.cf_check_compare.specs.declared.comparisons.Comparison.{Comparison}
 use Rattle.cf_check_judge.proofs.Following.{at_start, at_the_end, foreign_is, goes_next, line_not, open_is, wrong_is}
 use Rattle.cf_check_judge.specs.Judge.{at_end, first_result, is_line}
@@ -17,10 +18,7 @@ use Rattle.cf_check_model.specs.declared.verdicts.Verdict.TheVariants.{Unlawful,
 use Rattle.cf_check_traces.specs.Followed.{IsNext}
 use Rattle.cf_check_report.proofs.Aiming.{aim_goes_on, aimed_counts}
 use Rattle.cf_check_report.proofs.Answering.{next_of, runs_on}
-use Rattle.cf_check_report.specs.declared.check_errors.CheckError.{CheckError}
-use Rattle.cf_check_report.specs.declared.check_errors.CheckError.TheVariants as fails
 use Rattle.cf_check_report.specs.Following.{Follows, IsTaken, JudgedTo, judged_by}
-use Rattle.cf_check_report.specs.Straying.{IsStray}
 use Rattle.cf_check_report.specs.Playing.{PlayedTo, Plays, ResumesNewest, aim_after}
 use Rattle.cf_check_report.specs.Restarts.{next_aim, next_count}
 use Rattle.cf_volume_room.specs.Aims.{IsAimedBy}
@@ -49,26 +47,6 @@ module _ {D : Type 0} (Stands : D → Option ℕ → State → Type 0) (events :
       by : (b : Bool) → not b ≡ true → b ≡ false
       by true k = let z : false ≡ true = k in absurd cc
       by false k = refl
-
-  -- where the way is lost
-  pub strays : (j : Judge D) (a : Answer) (next : Option ℕ) (new : D) (c : Comparison) → Follows Stands events report clusters done (e ∷ es) rest j → is_line device_line (first_result rest) ≡ false → is_of mode.Replay e ≡ true → Plays Stands e next j.device (Ok a) new → IsComparison e a rest c
-      → ◌≡◌ {A = Result Judged CheckError} (judged_by c) (Err fails.NotFollowed) → IsStray events report clusters
-  strays j a next new (GoesOn n) h line known plays is told = absurd cc
-  strays j a next new Differs h line known plays is told = absurd cc
-  strays j a next new Lost h line known plays is told = absurd cc
-  strays j a next new TooLong h line known plays (passed, (meets, large)) told =
-      let played : PlayedTo Stands e next (next_count (e ∷ es) (result_lines rest)) h.state (Ok a) new = plays.leads (next_count (e ∷ es) (result_lines rest)) h.state h.stands in record {
-        done = done;
-        next = e;
-        more = es;
-        trace = h.trace;
-        state = h.state;
-        rest = rest;
-        at = h.at;
-        allowed = known;
-        runs = line;
-        long = (a, played.0, played.1, played.2, passed, large);
-      }
 
   -- by its answer
 
@@ -109,7 +87,6 @@ module _ {D : Type 0} (Stands : D → Option ℕ → State → Type 0) (events :
     by_comparison (GoesOn n) judged.Open is told = absurd cc
     by_comparison Differs (judged.GoesOn m) is told = absurd cc
     by_comparison Differs judged.Open is told = absurd cc
-    by_comparison TooLong j is told = absurd cc
     by_comparison Lost j is told = absurd cc
 
 -- it is followed from the start of the report on
@@ -123,12 +100,11 @@ ended Stands events report clusters done rest j short h = at_the_end events repo
 
 -- in code
 
-pub by_result : {D : Type 0} (Stands : D → Option ℕ → State → Type 0) (aimed : (d : D) (aim : Option ℕ) (s : State) → Stands d aim s → IsAimedBy aim s.filter.volume) (events : List Event) (report : List ℕ) (clusters done : ℕ) (e : Event) (es : List Event) (rest : List ℕ) (a : Answer) (old new : Judge D) (next : Option ℕ) (r : Result Judged CheckError) → length report < 2 ^ 31
+pub by_result : {D : Type 0} (Stands : D → Option ℕ → State → Type 0) (aimed : (d : D) (aim : Option ℕ) (s : State) → Stands d aim s → IsAimedBy aim s.filter.volume) (events : List Event) (report : List ℕ) (clusters done : ℕ) (e : Event) (es : List Event) (rest : List ℕ) (a : Answer) (old new : Judge D) (next : Option ℕ) (r : Result Judged NoMemory) → length report < 2 ^ 31
     → is_of mode.Replay e ≡ true → is_line device_line (first_result rest) ≡ false → next ≡ next_aim e es (result_lines rest) → Plays Stands e next old.device (Ok a) new.device → IsTaken e a rest r → Follows Stands events report clusters done (e ∷ es) rest old → JudgedTo Stands events report clusters done es rest r new
 by_result Stands aimed events report clusters done e es rest a old new next (Ok j) short known line next_is plays (c, is, told) h =
     by_comparison Stands events report clusters done e es rest short aimed a old new line (subst (λ (o : Option ℕ). Plays Stands e o old.device (Ok a) new.device) next_is plays) h c j is told
-by_result Stands aimed events report clusters done e es rest a old new next (Err fails.NotFollowed) short known line next_is plays (c, is, told) h = strays Stands events report clusters done e es rest short old a next new.device c h line known plays is told
-by_result Stands aimed events report clusters done e es rest a old new next (Err fails.OutOfMemory) short known line next_is plays is h = record {}
+by_result Stands aimed events report clusters done e es rest a old new next (Err m) short known line next_is plays is h = record {}
 
 -- in the loop
 
@@ -139,19 +115,15 @@ behind_is all i = let e : length (drop (i + 1) all) ≡ length all - (i + 1) = l
 pub left_is : (all : List Event) (i : ℕ) (e : Event) (behind : List Event) → e ≡ get_or all i e → i < length all → behind ≡ drop (i + 1) all → drop i all ≡ e ∷ behind
 left_is all i e behind item lt is = rest_is all i e item lt ∙ ap (λ (es : List Event). e ∷ es) (sym is)
 
-pub judged_wrong : {D : Type 0} (Stands : D → Option ℕ → State → Type 0) (events : List Event) (report : List ℕ) (clusters done n : ℕ) (es : List Event) (rest : List ℕ) (new : Judge D) (r : Result Judged CheckError) (j : Judged) → r ≡ Ok j → j ≡ judged.Wrong → n ≡ done → JudgedTo Stands events report clusters done es rest r new → IsVerdict events report clusters (Unlawful (n + 1))
+pub judged_wrong : {D : Type 0} (Stands : D → Option ℕ → State → Type 0) (events : List Event) (report : List ℕ) (clusters done n : ℕ) (es : List Event) (rest : List ℕ) (new : Judge D) (r : Result Judged NoMemory) (j : Judged) → r ≡ Ok j → j ≡ judged.Wrong → n ≡ done → JudgedTo Stands events report clusters done es rest r new → IsVerdict events report clusters (Unlawful (n + 1))
 judged_wrong Stands events report clusters done n es rest new r j is wrong at h =
-    subst (λ (k : ℕ). IsVerdict events report clusters (Unlawful k)) (let e : suc done ≡ n + 1 = omega (arith, at) in e) (subst (λ (x : Result Judged CheckError). JudgedTo Stands events report clusters done es rest x new) (is ∙ ap (λ (x : Judged). Ok x) wrong) h)
+    subst (λ (k : ℕ). IsVerdict events report clusters (Unlawful k)) (let e : suc done ≡ n + 1 = omega (arith, at) in e) (subst (λ (x : Result Judged NoMemory). JudgedTo Stands events report clusters done es rest x new) (is ∙ ap (λ (x : Judged). Ok x) wrong) h)
 
-pub judged_open : {D : Type 0} (Stands : D → Option ℕ → State → Type 0) (events : List Event) (report : List ℕ) (clusters done n : ℕ) (es : List Event) (rest : List ℕ) (new : Judge D) (r : Result Judged CheckError) (j : Judged) → r ≡ Ok j → j ≡ judged.Open → n ≡ done → JudgedTo Stands events report clusters done es rest r new → IsVerdict events report clusters (Undecided (n + 1))
+pub judged_open : {D : Type 0} (Stands : D → Option ℕ → State → Type 0) (events : List Event) (report : List ℕ) (clusters done n : ℕ) (es : List Event) (rest : List ℕ) (new : Judge D) (r : Result Judged NoMemory) (j : Judged) → r ≡ Ok j → j ≡ judged.Open → n ≡ done → JudgedTo Stands events report clusters done es rest r new → IsVerdict events report clusters (Undecided (n + 1))
 judged_open Stands events report clusters done n es rest new r j is told at h =
-    subst (λ (k : ℕ). IsVerdict events report clusters (Undecided k)) (let e : suc done ≡ n + 1 = omega (arith, at) in e) (subst (λ (x : Result Judged CheckError). JudgedTo Stands events report clusters done es rest x new) (is ∙ ap (λ (x : Judged). Ok x) told) h)
+    subst (λ (k : ℕ). IsVerdict events report clusters (Undecided k)) (let e : suc done ≡ n + 1 = omega (arith, at) in e) (subst (λ (x : Result Judged NoMemory). JudgedTo Stands events report clusters done es rest x new) (is ∙ ap (λ (x : Judged). Ok x) told) h)
 
-pub judged_on : {D : Type 0} (Stands : D → Option ℕ → State → Type 0) (events : List Event) (report : List ℕ) (clusters done len : ℕ) (es : List Event) (rest after : List ℕ) (new : Judge D) (r : Result Judged CheckError) (j : Judged) → r ≡ Ok j → j ≡ judged.GoesOn len → after ≡ drop len rest → JudgedTo Stands events report clusters done es rest r new → Follows Stands events report clusters (done + 1) es after new
+pub judged_on : {D : Type 0} (Stands : D → Option ℕ → State → Type 0) (events : List Event) (report : List ℕ) (clusters done len : ℕ) (es : List Event) (rest after : List ℕ) (new : Judge D) (r : Result Judged NoMemory) (j : Judged) → r ≡ Ok j → j ≡ judged.GoesOn len → after ≡ drop len rest → JudgedTo Stands events report clusters done es rest r new → Follows Stands events report clusters (done + 1) es after new
 judged_on Stands events report clusters done len es rest after new r j is on from h =
     subst (λ (k : ℕ). Follows Stands events report clusters k es after new) (let e : suc done ≡ done + 1 = omega arith in e)
-    (subst (λ (xs : List ℕ). Follows Stands events report clusters (suc done) es xs new) (sym from) (subst (λ (x : Result Judged CheckError). JudgedTo Stands events report clusters done es rest x new) (is ∙ ap (λ (x : Judged). Ok x) on) h))
-
-pub judged_stray : {D J : Type 0} (Stands : D → Option ℕ → State → Type 0) (events : List Event) (report : List ℕ) (clusters done : ℕ) (es : List Event) (rest : List ℕ) (new : Judge D) (r : Result Judged CheckError) (f : CheckError) → r ≡ Err f → ◌≡◌ {A = Result J CheckError} (Err f) (Err fails.NotFollowed) → JudgedTo Stands events report clusters done es rest r new → IsStray events report clusters
-judged_stray Stands events report clusters done es rest new r fails.NotFollowed is lost h = subst (λ (x : Result Judged CheckError). JudgedTo Stands events report clusters done es rest x new) is h
-judged_stray Stands events report clusters done es rest new r fails.OutOfMemory is lost h = absurd cc
+    (subst (λ (xs : List ℕ). Follows Stands events report clusters (suc done) es xs new) (sym from) (subst (λ (x : Result Judged NoMemory). JudgedTo Stands events report clusters done es rest x new) (is ∙ ap (λ (x : Judged). Ok x) on) h))

@@ -2,4 +2,3 @@ pub mod Counts
 pub mod Following
 pub mod Playing
 pub mod Restarts
-pub mod Straying

@@ -9,7 +9,6 @@ ghost use Rattle.cf_check_report.specs.Following.{Follows, IsTaken, JudgedTo, ju
 ghost use Rattle.cf_check_report.specs.Playing.{Plays};
 ghost use Rattle.cf_model.specs.Events.{is_of};
 
-use crate::check_errors::CheckError;
 use crate::devices::Device;
 use crate::restarts::next_aim;
 use cf_base::{Answer, Blob, Event, OutOfMemory, no_such_state};
@@ -37,14 +36,13 @@ pub(crate) struct Judge<D> {
 }
 
 // What is said by a comparison. No state has an answer that is lost, since the device is told which requests failed by the report.
-fn judgement_of(compared: Comparison) -> Result<Judged, CheckError>
+fn judgement_of(compared: Comparison) -> Result<Judged, OutOfMemory>
     ensures { result ≡ judged_by compared }
 {
     match compared {
         Comparison::GoesOn(len) => Ok(Judged::GoesOn(len)),
         Comparison::Differs => Ok(Judged::Wrong),
-        Comparison::TooLong => Err(CheckError::NotFollowed),
-        Comparison::Lost => Err(CheckError::from(no_such_state())),
+        Comparison::Lost => Err(no_such_state()),
     }
 }
 
@@ -55,7 +53,7 @@ fn take(
     event: &Event,
     answer: &Answer,
     rest: &[u8],
-) -> Result<Judged, CheckError>
+) -> Result<Judged, OutOfMemory>
     ensures { IsTaken event.now answer.now rest.now result }
 {
     let compared = compare(alloc, event, answer, rest)?;
@@ -93,7 +91,7 @@ impl<D: Device> Judge<D> {
         event: &Event,
         behind: &[Event],
         rest: &[u8],
-    ) -> (Judge<D>, Result<Judged, CheckError>)
+    ) -> (Judge<D>, Result<Judged, OutOfMemory>)
         requires of { is_of mode.Replay event.now ≡ true }
         requires runs { is_line device_line (first_result rest.now) ≡ false }
         ensures { (events : List Done) (report : List ℕ) (clusters done : ℕ) → length report < 2 ^ 31
@@ -107,7 +105,7 @@ impl<D: Device> Judge<D> {
                 drop(answer);
                 (left, judged)
             }
-            Err(fail) => (left, Err(CheckError::from(fail))),
+            Err(fail) => (left, Err(fail)),
         }
     }
 
@@ -118,7 +116,7 @@ impl<D: Device> Judge<D> {
         event: &Event,
         behind: &[Event],
         rest: &[u8],
-    ) -> (Judge<D>, Result<Judged, CheckError>)
+    ) -> (Judge<D>, Result<Judged, OutOfMemory>)
         ensures { (events : List Done) (report : List ℕ) (clusters done : ℕ) → length report < 2 ^ 31
             → Follows D.stands events report clusters done (event.now ∷ behind.now) rest.now self → JudgedTo D.stands events report clusters done behind.now rest.now result.1 result.0 }
     {

@@ -6,7 +6,6 @@
 //! of the report resumes. So where a restart of it resumes another count than the report says, no run resumes that one.
 #![tactic(auto)]
 
-mod check_errors;
 mod counts;
 mod devices;
 mod differences;
@@ -14,7 +13,6 @@ mod judgements;
 mod reports;
 mod restarts;
 
-pub use check_errors::CheckError;
 pub use devices::Device;
 pub use differences::{Difference, Judgement};
 pub use reports::judge;

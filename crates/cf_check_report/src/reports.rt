@@ -1,18 +1,15 @@
 //! A whole report.
 
-ghost use Rattle.std.specs.Prelude.{◌≡◌, ◌≤◌, ◌<◌, ◌+◌, ◌^◌, Err, IfOk, drop, length};
+ghost use Rattle.std.specs.Prelude.{◌≡◌, ◌≤◌, ◌<◌, ◌+◌, ◌^◌, IfOk, drop, length};
 ghost use Rattle.cf_check_judge.specs.Judge.{at_end};
 ghost use Rattle.cf_check_model.specs.Judging.{IsVerdict};
-ghost use Rattle.cf_check_report.specs.Straying.{IsStray};
-ghost use Rattle.cf_check_report.specs.declared.check_errors.CheckError.TheVariants as fails;
 ghost use Rattle.cf_model.specs.Words.{is_empty};
 
-use crate::check_errors::CheckError;
 use crate::devices::Device;
 use crate::differences::{Difference, Judgement};
 use crate::judgements::{Judge, Judged};
 use crate::restarts::next_count;
-use cf_base::{Blob, Event};
+use cf_base::{Blob, Event, OutOfMemory};
 use cf_check_compare::after;
 use cf_check_model::Verdict;
 use std::alloc::Global;
@@ -67,19 +64,18 @@ fn at_end(rest: &[u8], done: u32, place: usize, expected: Blob) -> Judgement
 }
 
 /// Judges a report of these events, of a device with so many clusters, at most 65,536, in which nothing has happened, and a remote that is empty
-/// at the start. The verdict is the only one that is right. Fails as NotFollowed only where the report's way was lost, as `CheckError`
-/// explains, and as OutOfMemory.
+/// at the start. The verdict is the only one that is right. Fails as out of memory where there is no memory, or the device gives an answer of
+/// more than 2,147,483,647 bytes.
 pub fn judge<D: Device + Drop>(
     alloc: Global,
     clusters: u32,
     events: &[Event],
     report: &[u8],
-) -> Result<Judgement, CheckError>
+) -> Result<Judgement, OutOfMemory>
     requires clusters { clusters ≤ 65536 }
     requires events { length events.now < 2 ^ 32 }
     requires report { length report.now < 2 ^ 31 }
-    ensures right { IfOk result (λ j. IsVerdict events.now report.now clusters j.verdict) }
-    ensures strays { result ≡ Err fails.NotFollowed → IsStray events.now report.now clusters }
+    ensures { IfOk result (λ j. IsVerdict events.now report.now clusters j.verdict) }
 {
     let device = D::start(alloc, clusters, next_count(events, report))?;
     let expected = Blob::from_vec(Vec::new(alloc));

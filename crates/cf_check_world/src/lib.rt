@@ -6,7 +6,7 @@ mod checks;
 mod mem_devices;
 mod told_remotes;
 
-pub use cf_check_report::{CheckError, Difference, Judgement};
+pub use cf_check_report::{Difference, Judgement};
 pub use checks::check;
 pub use mem_devices::MemDevice;
 pub use told_remotes::ToldRemote;

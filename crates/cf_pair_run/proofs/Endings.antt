@@ -54,7 +54,6 @@ module _ {D R : Type 0} (state : D → Disk) (told : R → Told) (first second :
   refusal_written status.Unlawful h = absurd h
   refusal_written status.Undecided h = absurd h
   refusal_written status.Damaged h = absurd h
-  refusal_written status.NotFollowed h = absurd h
 
   -- what was written of a script that was read, by how its events went
   pub played_written : (a b : D) (after : R) (events : List PairEvent) (w : PairWorld D R) (r : Result (Unit {0}) PlayError) → IsScript text events → length text ≤ most_script → OnOk r (AllPlayed state told first second remote events old new w)

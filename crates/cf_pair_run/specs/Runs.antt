@@ -102,7 +102,6 @@ Writes Said Lawful Kept text old new status.BadImage = ⊥
 Writes Said Lawful Kept text old new status.Unlawful = ⊥
 Writes Said Lawful Kept text old new status.Undecided = ⊥
 Writes Said Lawful Kept text old new status.Damaged = ⊥
-Writes Said Lawful Kept text old new status.NotFollowed = ⊥
 
 -- the answers are lawful, whatever the remote held that the run began with and that reports nothing of it
 abbrev pub IsLawful : {D R : Type 0} → (D → Disk) → (R → Told) → D → D → R → Trace → Type 0

@@ -1,5 +1,5 @@
 -- The judgement of a recorded report.
-use Rattle.std.proofs.Common.{◌≡◌, ◌<◌, ◌≤◌, ℕ, List, length, refl, sym, subst, inl, inr}
+use Rattle.std.proofs.Common.{◌≡◌, ◌<◌, ◌≤◌, ℕ, List, length, refl, sym, subst, inl, inr, arith}
 use Rattle.std.specs.Prelude.{Option}
 use Rattle.cf_base.specs.declared.events.Event.{Event}
 use Rattle.cf_base.specs.declared.policies.Mode.TheVariants.{Replay}
@@ -15,7 +15,7 @@ use Rattle.cf_script.specs.Script.{AreEvents, IsScript, event_lines}
 use Rattle.cf_world.proofs.Adding.{adds_nothing}
 use Rattle.cf_world.proofs.OfTexts.{long_text, not_quiet, some_text, whole_text}
 use Rattle.cf_world.proofs.Parted.{not_both, one_script}
-use Rattle.cf_world.specs.Checks.{CheckWrites, HasLine, HasNoMark, IsJudged, IsParted, IsRecording, IsSilent, OfCheck, clusters, most_checked, unmarked_line, verdict_line, verdict_status}
+use Rattle.cf_world.specs.Checks.{CheckWrites, HasLine, HasNoMark, IsJudged, IsParted, IsRecording, OfCheck, clusters, most_checked, unmarked_line, verdict_line, verdict_status}
 use Rattle.cf_world.specs.Judged.{PutsLine, PutsVerdict}
 use Rattle.cf_world.specs.Runs.{WritesRefusal}
 use Rattle.cf_world.specs.Steps.{read_status}
@@ -46,7 +46,6 @@ module _ (text : List ℕ) (old new : Option (List ℕ)) (short : length text �
   puts_line line said status.BadScript h p = (short, line, subst (HasLine text line) (sym p.0) h, p.1)
   puts_line line said status.SinkFault h p = (short, line, said, h, p)
   puts_line line said status.OutOfMemory h p = inr (short, line, said, h, p)
-  puts_line line said status.NotFollowed h p = absurd (of_judged text line status.NotFollowed (subst (HasLine text line) (sym p.0) h))
   puts_line line said status.TooLong h p = absurd (of_judged text line status.TooLong (subst (HasLine text line) (sym p.0) h))
   puts_line line said status.SourceFault h p = absurd (of_judged text line status.SourceFault (subst (HasLine text line) (sym p.0) h))
   puts_line line said status.Usage h p = absurd (of_judged text line status.Usage (subst (HasLine text line) (sym p.0) h))
@@ -65,27 +64,13 @@ module _ (text : List ℕ) (old new : Option (List ℕ)) (short : length text �
 
   pub verdict_written : (events : List Event) (report : List ℕ) (end : Status) → IsRecording text events report → PutsVerdict events report old new end → CheckWrites text old new end
   verdict_written events report end r (inr (v, is, p)) = puts_line (verdict_line v) (verdict_status v) end (has events report v r is) p
-  verdict_written events report status.NotFollowed r (inl h) = (short, events, report, r, h.0, h.1)
-  verdict_written events report status.OutOfMemory r (inl h) = inl h.1
-  verdict_written events report status.Done r (inl h) = absurd h.0
-  verdict_written events report status.Unlawful r (inl h) = absurd h.0
-  verdict_written events report status.Undecided r (inl h) = absurd h.0
-  verdict_written events report status.BadScript r (inl h) = absurd h.0
-  verdict_written events report status.SinkFault r (inl h) = absurd h.0
-  verdict_written events report status.TooLong r (inl h) = absurd h.0
-  verdict_written events report status.SourceFault r (inl h) = absurd h.0
-  verdict_written events report status.Usage r (inl h) = absurd h.0
-  verdict_written events report status.BadDevice r (inl h) = absurd h.0
-  verdict_written events report status.DeviceFault r (inl h) = absurd h.0
-  verdict_written events report status.BadImage r (inl h) = absurd h.0
-  verdict_written events report status.Damaged r (inl h) = absurd h.0
+  verdict_written events report end r (inl (is, none)) = subst (CheckWrites text old new) (sym is) (inl none)
 
   pub refused_written : (script report : List ℕ) (end : Status) → IsParted text script report → WritesRefusal Replay script old new end → CheckWrites text old new end
   refused_written script report status.BadScript parted h = (short, h.line, inr (script, report, parted, h.refusal), h.written)
   refused_written script report status.SinkFault parted h = (short, h.line, status.BadScript, inr (script, report, parted, h.refusal), h.written)
   refused_written script report status.OutOfMemory parted (inl h) = inl h
   refused_written script report status.OutOfMemory parted (inr h) = inr (short, h.line, status.BadScript, inr (script, report, parted, h.refusal), h.written)
-  refused_written script report status.NotFollowed parted h = absurd h
   refused_written script report status.Done parted h = absurd h
   refused_written script report status.Unlawful parted h = absurd h
   refused_written script report status.Undecided parted h = absurd h
@@ -109,25 +94,24 @@ same_events text script report parted events other (s, p, is) =
 
 -- what holds of a text that was read
 
-module _ (text : List ℕ) (old new : Option (List ℕ)) (Unwritten : Type 0) (a b c d : ℕ) where
+module _ (text : List ℕ) (old new : Option (List ℕ)) (Unwritten : Type 0) (short : length text ≤ most_checked) (a b c d : ℕ) where
   abbrev Quiet : Type 0
   Quiet = IsQuiet a b × IsQuiet c d
 
-  pub of_text : (s : Status) → CheckWrites text old new s → (s ≡ status.BadScript → (events : List Event) (report : List ℕ) → IsRecording text events report → ⊥) → (s ≡ status.SourceFault → ⊥) → (s ≡ status.SinkFault → Rose c d) → (IsSilent s → Unwritten) → OfCheck text old new Unwritten Quiet s
-  of_text status.Done h bad read fault silent = record { writes = h; bad = bad; silent = silent; complete = λ quiet. tt }
-  of_text status.Unlawful h bad read fault silent = record { writes = h; bad = bad; silent = silent; complete = λ quiet. tt }
-  of_text status.Undecided h bad read fault silent = record { writes = h; bad = bad; silent = silent; complete = λ quiet. tt }
-  of_text status.NotFollowed h bad read fault silent = record { writes = h; bad = bad; silent = silent; complete = λ quiet. tt }
-  of_text status.BadScript h bad read fault silent = record { writes = h; bad = bad; silent = silent; complete = λ quiet. tt }
-  of_text status.TooLong h bad read fault silent = record { writes = h; bad = bad; silent = silent; complete = λ quiet. tt }
-  of_text status.OutOfMemory h bad read fault silent = record { writes = h; bad = bad; silent = silent; complete = λ quiet. tt }
-  of_text status.SinkFault h bad read fault silent = record { writes = h; bad = bad; silent = silent; complete = λ quiet. absurd (not_quiet c d (fault refl) quiet.1) }
-  of_text status.SourceFault h bad read fault silent = absurd (read refl)
-  of_text status.Usage h bad read fault silent = absurd h
-  of_text status.BadDevice h bad read fault silent = absurd h
-  of_text status.DeviceFault h bad read fault silent = absurd h
-  of_text status.BadImage h bad read fault silent = absurd h
-  of_text status.Damaged h bad read fault silent = absurd h
+  pub of_text : (s : Status) → CheckWrites text old new s → (s ≡ status.BadScript → (events : List Event) (report : List ℕ) → IsRecording text events report → ⊥) → (s ≡ status.SourceFault → ⊥) → (s ≡ status.SinkFault → Rose c d) → OfCheck text old new Unwritten Quiet s
+  of_text status.Done h bad read fault = record { writes = h; bad = bad; silent = λ s. absurd s; complete = λ quiet. tt }
+  of_text status.Unlawful h bad read fault = record { writes = h; bad = bad; silent = λ s. absurd s; complete = λ quiet. tt }
+  of_text status.Undecided h bad read fault = record { writes = h; bad = bad; silent = λ s. absurd s; complete = λ quiet. tt }
+  of_text status.BadScript h bad read fault = record { writes = h; bad = bad; silent = λ s. absurd s; complete = λ quiet. tt }
+  of_text status.TooLong h bad read fault = absurd (omega (arith, short, h.0))
+  of_text status.OutOfMemory h bad read fault = record { writes = h; bad = bad; silent = λ s. absurd s; complete = λ quiet. tt }
+  of_text status.SinkFault h bad read fault = record { writes = h; bad = bad; silent = λ s. absurd s; complete = λ quiet. absurd (not_quiet c d (fault refl) quiet.1) }
+  of_text status.SourceFault h bad read fault = absurd (read refl)
+  of_text status.Usage h bad read fault = absurd h
+  of_text status.BadDevice h bad read fault = absurd h
+  of_text status.DeviceFault h bad read fault = absurd h
+  of_text status.BadImage h bad read fault = absurd h
+  of_text status.Damaged h bad read fault = absurd h
 
 -- and of one that was not
 

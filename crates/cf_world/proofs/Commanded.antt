@@ -61,7 +61,6 @@ module _ (P Q : List (Event × Answer) → List ℕ → Type 0) (F G : List (Eve
   concludes_said status.Unlawful h = absurd h
   concludes_said status.Undecided h = absurd h
   concludes_said status.Damaged h = absurd h
-  concludes_said status.NotFollowed h = absurd h
 
 module _ {D R A : Type 0} (state : D → Disk) (told : R → Told) (W : Acts A) (disk back : D) (first left : R) (actor after : A)
     -- the actor stands for each remote of the definitions that the run may begin with

@@ -57,7 +57,6 @@ module _ {D A : Type 0} (state : D → Disk) (W : Acts A) (disk back : D) (first
   puts_state made status.Unlawful p leaves = absurd p
   puts_state made status.Undecided p leaves = absurd p
   puts_state made status.Damaged p leaves = absurd p
-  puts_state made status.NotFollowed p leaves = absurd p
 
   summed : (made : Result (List ℕ) NoMemory) (blocks : ℕ) (t : State) (last : List ℕ) → made ≡ Ok last → IfOk made (λ b. b ≡ summary trace blocks) → blocks ≡ used_blocks t → last ≡ summary trace (used_blocks t)
   summed made blocks t last is sums used = subst (λ (n : ℕ). last ≡ summary trace n) used (made_is made (λ b. b ≡ summary trace blocks) last is sums)
@@ -76,7 +75,6 @@ module _ {D A : Type 0} (state : D → Disk) (W : Acts A) (disk back : D) (first
   puts_summary made blocks status.Unlawful p sums leaves = absurd p
   puts_summary made blocks status.Undecided p sums leaves = absurd p
   puts_summary made blocks status.Damaged p sums leaves = absurd p
-  puts_summary made blocks status.NotFollowed p sums leaves = absurd p
 
   -- the disk's bytes, where `back` is what is left of the disk whose power was cut
   pub puts_image : (d : D) (s : Status) → HandsImage state d back old new s → LeavesActor state W disk first trace d actor → PutsEnd state W ending.Image disk first trace old new s back actor
@@ -93,7 +91,6 @@ module _ {D A : Type 0} (state : D → Disk) (W : Acts A) (disk back : D) (first
   puts_image d status.Unlawful h leaves = absurd h
   puts_image d status.Undecided h leaves = absurd h
   puts_image d status.Damaged h leaves = absurd h
-  puts_image d status.NotFollowed h leaves = absurd h
 
 -- how an ending ends
 
@@ -111,7 +108,6 @@ ends_text o made old new status.BadImage p = absurd p
 ends_text o made old new status.Unlawful p = absurd p
 ends_text o made old new status.Undecided p = absurd p
 ends_text o made old new status.Damaged p = absurd p
-ends_text o made old new status.NotFollowed p = absurd p
 
 pub ends_image : {D : Type 0} (state : D → Disk) (d e : D) (old new : Option (List ℕ)) (s : Status) → HandsImage state d e old new s → IsEnding ending.Image s
 ends_image state d e old new status.Done h = tt
@@ -127,7 +123,6 @@ ends_image state d e old new status.BadImage h = absurd h
 ends_image state d e old new status.Unlawful h = absurd h
 ends_image state d e old new status.Undecided h = absurd h
 ends_image state d e old new status.Damaged h = absurd h
-ends_image state d e old new status.NotFollowed h = absurd h
 
 -- a script that was read
 
@@ -154,7 +149,6 @@ module _ {D A : Type 0} (state : D → Disk) (W : Acts A) (o : Ending) (disk bac
       by status.Unlawful p = absurd p
       by status.Undecided p = absurd p
       by status.Damaged p = absurd p
-      by status.NotFollowed p = absurd p
 
   -- they were not: the report would be too long, or memory ran out
   pub not_concluded : (w : Option (Acting D A)) (e : PlayError) → old ≡ new → (e ≡ plays.SinkFault → Rose 0 0) → SomePlayed state W disk first events None None w e → ((trace : List (Event × Answer)) → HasRunOn state W disk first trace w → LeavesActor state W disk first trace back actor)
@@ -188,7 +182,6 @@ refused_end Said Led Kept Failed m text old new status.BadImage kept h = absurd 
 refused_end Said Led Kept Failed m text old new status.Unlawful kept h = absurd h
 refused_end Said Led Kept Failed m text old new status.Undecided kept h = absurd h
 refused_end Said Led Kept Failed m text old new status.Damaged kept h = absurd h
-refused_end Said Led Kept Failed m text old new status.NotFollowed kept h = absurd h
 
 module _ {D R : Type 0} (state : D → Disk) (told : R → Told) (m : Mode) (disk : D) (remote : R) (text : List ℕ) (old new : Option (List ℕ)) where
   -- why it was not read

@@ -5,7 +5,7 @@ use Rattle.cf_base.specs.declared.answers.Answer.{Answer}
 use Rattle.cf_base.specs.declared.events.Event.{Event}
 use Rattle.cf_base.specs.declared.policies.Mode.{Mode}
 use Rattle.cf_base.specs.declared.statuses.Status.{Status}
-use Rattle.cf_base.specs.declared.statuses.Status.TheVariants.{Done, Usage, BadScript, SourceFault, SinkFault, BadDevice, OutOfMemory, TooLong, DeviceFault, BadImage, Unlawful, Undecided, Damaged, NotFollowed}
+use Rattle.cf_base.specs.declared.statuses.Status.TheVariants.{Done, Usage, BadScript, SourceFault, SinkFault, BadDevice, OutOfMemory, TooLong, DeviceFault, BadImage, Unlawful, Undecided, Damaged}
 use Rattle.cf_disk.specs.Disk.{State as Disk}
 use Rattle.cf_gen.specs.declared.summaries.Counts.{Counts}
 use Rattle.cf_io.specs.Moves.{AddsFront}
@@ -48,7 +48,6 @@ refusal_written Said Lawful Kept m text old new BadImage kept h = absurd h
 refusal_written Said Lawful Kept m text old new Unlawful kept h = absurd h
 refusal_written Said Lawful Kept m text old new Undecided kept h = absurd h
 refusal_written Said Lawful Kept m text old new Damaged kept h = absurd h
-refusal_written Said Lawful Kept m text old new NotFollowed kept h = absurd h
 
 -- what is said of the trace of what was played is all that changes
 front_said : (P Q : List (Event × Answer) → Type 0) (events : List Event) (old new : Option (List ℕ)) → ((trace : List (Event × Answer)) → P trace → Q trace) → PlaysFront P events old new → PlaysFront Q events old new
@@ -80,7 +79,6 @@ module _ (P Q F G : List (Event × Answer) → Type 0) (m : Mode) (text : List �
   writes_said Unlawful h = absurd h
   writes_said Undecided h = absurd h
   writes_said Damaged h = absurd h
-  writes_said NotFollowed h = absurd h
 
 module _ {D A : Type 0} (state : D → Disk) (W : Acts A) where
   -- what was written of a script that was read, by how its events went

@@ -32,4 +32,3 @@ module _ {D : Type 0} (state : D → Disk) (old cut new : D) (left : (state old)
   handed_image held after status.Unlawful h = absurd h
   handed_image held after status.Undecided h = absurd h
   handed_image held after status.Damaged h = absurd h
-  handed_image held after status.NotFollowed h = absurd h

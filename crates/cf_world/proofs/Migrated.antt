@@ -92,7 +92,6 @@ module _ (old : Disk) (left held : Option (List ℕ)) (a b c d limit : ℕ) (why
   unread_device status.Unlawful only fault fit image = absurd only
   unread_device status.Undecided only fault fit image = absurd only
   unread_device status.Damaged only fault fit image = absurd only
-  unread_device status.NotFollowed only fault fit image = absurd only
 
 -- the source was read
 
@@ -111,7 +110,6 @@ module _ (old now : Disk) (bytes : List ℕ) (held after : Option (List ℕ)) (a
   ends status.Unlawful writes fit read sink quiet is = absurd writes
   ends status.Undecided writes fit read sink quiet is = absurd writes
   ends status.Damaged writes fit read sink quiet is = absurd writes
-  ends status.NotFollowed writes fit read sink quiet is = absurd writes
 
   pub read_device : (end : Status) → Migrates old now bytes held after end → (end ≡ status.BadDevice → IsFit (size_of old) → ⊥) → ((IsFit (size_of old) → ⊥) → end ≡ status.BadDevice) → (end ≡ status.SourceFault → ⊥) → (end ≡ status.SinkFault → Rose c d)
       → OfDevice old now bytes held after (IsQuiet a b × IsQuiet c d) end
@@ -167,7 +165,6 @@ unopened_writes old now bytes held status.TooLong only image size = absurd only
 unopened_writes old now bytes held status.Unlawful only image size = absurd only
 unopened_writes old now bytes held status.Undecided only image size = absurd only
 unopened_writes old now bytes held status.Damaged only image size = absurd only
-unopened_writes old now bytes held status.NotFollowed only image size = absurd only
 
 pub later_fault : (r s t : Disk) (held after : Option (List ℕ)) (end : Status) → HandsOut s t held after end → r.faults ≤ s.faults → may_fail s.armed ≤ may_fail r.armed → end ≡ status.DeviceFault → HasFailed r t
 later_fault r s t held after end out least calm is =

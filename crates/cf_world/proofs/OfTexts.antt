@@ -50,7 +50,6 @@ short_enough status.BadImage text short h = absurd h
 short_enough status.Unlawful text short h = absurd h
 short_enough status.Undecided text short h = absurd h
 short_enough status.Damaged text short h = absurd h
-short_enough status.NotFollowed text short h = absurd h
 
 module _ {D R : Type 0} (state : D → Disk) (told : R → Told) (o : Output) (m : Mode) (disk : D) (remote : R) (old new : Option (List ℕ)) (Unwritten : Type 0) (a b c d : ℕ) where
   abbrev Quiet : Type 0

@@ -40,8 +40,6 @@ put_judgement j old new status.Undecided done front (inl is) = let z : status.Un
 put_judgement j old new status.Undecided done front (inr is) = let z : status.Undecided ≡ status.SinkFault = is in absurd cc
 put_judgement j old new status.Damaged done front (inl is) = let z : status.Damaged ≡ status.Done = is in absurd cc
 put_judgement j old new status.Damaged done front (inr is) = let z : status.Damaged ≡ status.SinkFault = is in absurd cc
-put_judgement j old new status.NotFollowed done front (inl is) = let z : status.NotFollowed ≡ status.Done = is in absurd cc
-put_judgement j old new status.NotFollowed done front (inr is) = let z : status.NotFollowed ≡ status.SinkFault = is in absurd cc
 
 -- of these bytes
 pub judges : (bytes : List ℕ) (j : Judgement) (old new : Option (List ℕ)) (s : Status) → IsJudgement bytes j → PutsJudgement j old new s → JudgesText bytes old new s
@@ -58,7 +56,6 @@ judges bytes j old new status.DeviceFault is p = absurd p
 judges bytes j old new status.BadImage is p = absurd p
 judges bytes j old new status.Unlawful is p = absurd p
 judges bytes j old new status.Undecided is p = absurd p
-judges bytes j old new status.NotFollowed is p = absurd p
 
 module _ (bytes : List ℕ) (old new : Option (List ℕ)) (a b c d : ℕ) where
   abbrev Quiet : Type 0
@@ -78,7 +75,6 @@ module _ (bytes : List ℕ) (old new : Option (List ℕ)) (a b c d : ℕ) where
   judged_bytes status.BadImage h fault = absurd h
   judged_bytes status.Unlawful h fault = absurd h
   judged_bytes status.Undecided h fault = absurd h
-  judged_bytes status.NotFollowed h fault = absurd h
 
 -- a front of what the source has left, or some bytes where it reports nothing
 abbrev pub some_front : Option (List ℕ) → List ℕ

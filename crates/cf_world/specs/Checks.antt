@@ -14,7 +14,6 @@ use Rattle.cf_base.specs.declared.statuses.Status.TheVariants as status
 use Rattle.cf_check_model.specs.Judging.{IsVerdict}
 use Rattle.cf_check_model.specs.declared.verdicts.Verdict.{Verdict}
 use Rattle.cf_check_model.specs.declared.verdicts.Verdict.TheVariants.{Lawful, Unlawful, Undecided}
-use Rattle.cf_check_report.specs.Straying.{IsStray}
 use Rattle.cf_io.specs.Moves.{Adds, AddsFront}
 use Rattle.cf_script.specs.Script.{IsScript, lines_of}
 use Rattle.cf_world.specs.Runs.{IsRefusal}
@@ -77,14 +76,12 @@ abbrev pub HasLine : List ℕ → List ℕ → Status → Type 0
 HasLine text line status.BadScript = IsUnread text line
 HasLine text line s = IsJudged text line s
 
--- What was written, by the status: one line, a front of it, or nothing. A recording that is not followed strays at some event: the events
--- before it have lawful answers with these texts, and it has a lawful answer of 2^31 bytes or more.
+-- what was written, by the status: one line, a front of it, or nothing
 abbrev pub CheckWrites : List ℕ → Option (List ℕ) → Option (List ℕ) → Status → Type 0
 CheckWrites text old new status.Done = (length text ≤ most_checked) × (line : List ℕ) × HasLine text line status.Done × Adds old new line
 CheckWrites text old new status.Unlawful = (length text ≤ most_checked) × (line : List ℕ) × HasLine text line status.Unlawful × Adds old new line
 CheckWrites text old new status.Undecided = (length text ≤ most_checked) × (line : List ℕ) × HasLine text line status.Undecided × Adds old new line
 CheckWrites text old new status.BadScript = (length text ≤ most_checked) × (line : List ℕ) × HasLine text line status.BadScript × Adds old new line
-CheckWrites text old new status.NotFollowed = (length text ≤ most_checked) × (events : List Event) × (report : List ℕ) × IsRecording text events report × IsStray events report clusters × Adds old new []
 CheckWrites text old new status.SinkFault = (length text ≤ most_checked) × (line : List ℕ) × (s : Status) × HasLine text line s × AddsFront old new line
 CheckWrites text old new status.OutOfMemory = Adds old new [] ⊎ ((length text ≤ most_checked) × (line : List ℕ) × (s : Status) × HasLine text line s × AddsFront old new line)
 CheckWrites text old new status.TooLong = (most_checked < length text) × Adds old new []
@@ -96,7 +93,6 @@ abbrev pub IsCheckEnd : Status → Type 0
 IsCheckEnd status.Done = Unit {0}
 IsCheckEnd status.Unlawful = Unit {0}
 IsCheckEnd status.Undecided = Unit {0}
-IsCheckEnd status.NotFollowed = Unit {0}
 IsCheckEnd status.BadScript = Unit {0}
 IsCheckEnd status.TooLong = Unit {0}
 IsCheckEnd status.OutOfMemory = Unit {0}
@@ -106,7 +102,6 @@ IsCheckEnd _ = ⊥
 abbrev pub IsSilent : Status → Type 0
 IsSilent status.SourceFault = Unit {0}
 IsSilent status.TooLong = Unit {0}
-IsSilent status.NotFollowed = Unit {0}
 IsSilent _ = ⊥
 
 -- All that holds of a text whose report was judged, by how it ended. It was quiet where neither source nor sink failed.

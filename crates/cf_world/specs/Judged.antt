@@ -5,7 +5,6 @@ use Rattle.cf_base.specs.declared.statuses.Status.{Status}
 use Rattle.cf_base.specs.declared.statuses.Status.TheVariants as status
 use Rattle.cf_check_model.specs.Judging.{IsVerdict}
 use Rattle.cf_check_model.specs.declared.verdicts.Verdict.{Verdict}
-use Rattle.cf_check_report.specs.Straying.{IsStray}
 use Rattle.cf_io.specs.Moves.{Adds, AddsFront}
 use Rattle.cf_world.specs.Checks.{clusters, verdict_line, verdict_status}
 
@@ -15,12 +14,6 @@ PutsLine line said old new status.SinkFault = AddsFront old new line
 PutsLine line said old new status.OutOfMemory = AddsFront old new line
 PutsLine line said old new end = (end ≡ said) × Adds old new line
 
--- the ends of a report that was not judged
-abbrev pub IsUnjudged : List Event → List ℕ → Status → Type 0
-IsUnjudged events report status.NotFollowed = IsStray events report clusters
-IsUnjudged events report status.OutOfMemory = Unit {0}
-IsUnjudged events report _ = ⊥
-
--- The line of the right verdict was written, or there was no verdict, and nothing was written.
+-- The line of the right verdict was written, or memory ran out before there was a verdict, and nothing was written.
 abbrev pub PutsVerdict : List Event → List ℕ → Option (List ℕ) → Option (List ℕ) → Status → Type 0
-PutsVerdict events report old new end = (IsUnjudged events report end × Adds old new []) ⊎ ((v : Verdict) × IsVerdict events report clusters v × PutsLine (verdict_line v) (verdict_status v) old new end)
+PutsVerdict events report old new end = ((end ≡ status.OutOfMemory) × Adds old new []) ⊎ ((v : Verdict) × IsVerdict events report clusters v × PutsLine (verdict_line v) (verdict_status v) old new end)

@@ -94,7 +94,6 @@ Concludes Said Led Kept Failed m text old new status.BadImage = ⊥
 Concludes Said Led Kept Failed m text old new status.Unlawful = ⊥
 Concludes Said Led Kept Failed m text old new status.Undecided = ⊥
 Concludes Said Led Kept Failed m text old new status.Damaged = ⊥
-Concludes Said Led Kept Failed m text old new status.NotFollowed = ⊥
 
 abbrev pub ConcludesBy : {D A : Type 0} → (D → Disk) → Acts A → Ending → D → A → List ℕ → Option (List ℕ) → Option (List ℕ) → Status → D → A → Type 0
 ConcludesBy state W o disk first text old new end back actor =

@@ -133,7 +133,6 @@ Writes Said Lawful Kept m text old new status.BadImage = ⊥
 Writes Said Lawful Kept m text old new status.Unlawful = ⊥
 Writes Said Lawful Kept m text old new status.Undecided = ⊥
 Writes Said Lawful Kept m text old new status.Damaged = ⊥
-Writes Said Lawful Kept m text old new status.NotFollowed = ⊥
 
 -- how long a text is, by the status
 abbrev pub IsLength : Status → List ℕ → Type 0
@@ -150,7 +149,6 @@ IsLength status.BadImage text = ⊥
 IsLength status.Unlawful text = ⊥
 IsLength status.Undecided text = ⊥
 IsLength status.Damaged text = ⊥
-IsLength status.NotFollowed text = ⊥
 
 -- the statuses of a text that was read
 abbrev pub IsAfterReading : Status → Type 0
@@ -167,7 +165,6 @@ IsAfterReading status.BadImage = ⊥
 IsAfterReading status.Unlawful = ⊥
 IsAfterReading status.Undecided = ⊥
 IsAfterReading status.Damaged = ⊥
-IsAfterReading status.NotFollowed = ⊥
 
 -- the statuses of a report
 abbrev pub IsOfReport : Status → Type 0

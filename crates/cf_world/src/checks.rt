@@ -3,11 +3,9 @@
 ghost use Rattle.std.specs.Prelude.{◌≡◌, ◌≢◌, ◌⊎◌, ◌≤◌, ◌<◌, ◌^◌, IfOk, List, None, length, string_bytes, ℕ};
 ghost use Rattle.cf_base.specs.declared.events.Event.{Event as Done};
 ghost use Rattle.cf_base.specs.declared.statuses.Status.TheVariants as ends;
-ghost use Rattle.cf_check_report.specs.Straying.{IsStray};
-ghost use Rattle.cf_check_report.specs.declared.check_errors.CheckError.TheVariants as fails;
 ghost use Rattle.cf_io.specs.Moves.{IsQuiet, IsWhole, Rose};
-ghost use Rattle.cf_world.specs.Checks.{CheckWrites, IsRecording, IsSilent, OfCheck, clusters, most_checked, unmarked_line, verdict_line, verdict_status};
-ghost use Rattle.cf_world.specs.Judged.{IsUnjudged, PutsLine, PutsVerdict};
+ghost use Rattle.cf_world.specs.Checks.{CheckWrites, IsRecording, OfCheck, most_checked, unmarked_line, verdict_line, verdict_status};
+ghost use Rattle.cf_world.specs.Judged.{PutsLine, PutsVerdict};
 ghost use Rattle.cf_world.specs.Runs.{IsBeforeWriting};
 
 use crate::explanations::explain;
@@ -15,9 +13,9 @@ use crate::images::written;
 use crate::recordings::{next_number, parts};
 use crate::refusals::{early, refuse, write_fail};
 use crate::runs::unscripted;
-use cf_base::{Event, Mode, Status};
+use cf_base::{Event, Mode, OutOfMemory, Status};
 use cf_check_model::Verdict;
-use cf_check_world::{CheckError, Difference, Judgement, check};
+use cf_check_world::{Difference, Judgement, check};
 use cf_io::{Sink, Source, read_all};
 use cf_script::{ScriptError, read};
 use std::alloc::{AllocError, Global};
@@ -77,7 +75,6 @@ fn judge_text<K: Sink>(alloc: Global, text: &[u8], sink: &mut K) -> Checked
     ensures bad { result.status ≡ ends.BadScript → (events : List Done) (report : List ℕ) → IsRecording text.now events report → ⊥ }
     ensures read { result.status ≢ ends.SourceFault }
     ensures sink_fault { result.status ≡ ends.SinkFault → Rose (K.faults sink.old) (K.faults sink.new) }
-    ensures silent { IsSilent result.status → sink.new ≡ sink.old }
     ensures unexplained { result.status ≢ ends.Unlawful → result.explanation ≡ None }
 {
     let Some((script, report)) = parts(text) else {
@@ -117,7 +114,6 @@ fn judge_report<K: Sink>(
     requires report { length report.now < 2 ^ 31 }
     ensures puts { PutsVerdict events.now report.now (K.held sink.old) (K.held sink.new) result.status }
     ensures sink_fault { result.status ≡ ends.SinkFault → Rose (K.faults sink.old) (K.faults sink.new) }
-    ensures silent { IsSilent result.status → sink.new ≡ sink.old }
     ensures unexplained { result.status ≢ ends.Unlawful → result.explanation ≡ None }
 {
     match check(alloc, events, report, CLUSTERS) {
@@ -134,17 +130,7 @@ fn judge_report<K: Sink>(
                 explanation,
             }
         }
-        Err(fail) => plain(unjudged(fail)),
-    }
-}
-
-// The status of a report that was not judged.
-fn unjudged(fail: CheckError) -> Status
-    ensures { (events : List Done) (report : List ℕ) → (fail ≡ fails.NotFollowed → IsStray events report clusters) → IsUnjudged events report result }
-{
-    match fail {
-        CheckError::NotFollowed => Status::NotFollowed,
-        CheckError::OutOfMemory => Status::OutOfMemory,
+        Err(OutOfMemory) => plain(Status::OutOfMemory),
     }
 }
 

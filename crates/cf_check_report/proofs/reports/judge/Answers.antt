@@ -3,7 +3,7 @@ use Rattle.std.specs.Prelude.{Option}
 use Rattle.std.proofs.lemmas.List.{drop_all}
 use Rattle.cf_base.specs.declared.events.Event.{Event}
 use Rattle.cf_base.specs.declared.policies.Mode.TheVariants as mode
-use Rattle.cf_check_report.proofs.Judging.{ended, followed, judged_on, judged_open, judged_stray, judged_wrong, left_is}
+use Rattle.cf_check_report.proofs.Judging.{ended, followed, judged_on, judged_open, judged_wrong, left_is}
 use Rattle.cf_check_report.specs.Following.{Follows}
 use Rattle.cf_check_judge.specs.Judge.{at_end}
 use Rattle.cf_check_model.specs.Judging.{IsVerdict}
@@ -19,8 +19,8 @@ loop-index-init g c = (
   refl,
 )
 
-pub returns-in-Ok-Wrong-clause-right : goal.returns-in-Ok-Wrong-clause-right
-returns-in-Ok-Wrong-clause-right g c =
+pub returns-in-Ok-Wrong : goal.returns-in-Ok-Wrong
+returns-in-Ok-Wrong g c =
     let i = c.loop-index.index in
     let all = c.args.events.now in
     let at = subst (λ (es : List Event). Follows g.D.Device.stands all c.args.report.now c.args.clusters i es c.loop-index.rest.now c.loop-index.judge)
@@ -30,8 +30,8 @@ returns-in-Ok-Wrong-clause-right g c =
     (c.judge-next.ensures all c.args.report.now c.args.clusters i c.requires.report at)
     )
 
-pub returns-in-Ok-Open-clause-right : goal.returns-in-Ok-Open-clause-right
-returns-in-Ok-Open-clause-right g c =
+pub returns-in-Ok-Open : goal.returns-in-Ok-Open
+returns-in-Ok-Open g c =
     let i = c.loop-index.index in
     let all = c.args.events.now in
     let at = subst (λ (es : List Event). Follows g.D.Device.stands all c.args.report.now c.args.clusters i es c.loop-index.rest.now c.loop-index.judge)
@@ -40,15 +40,6 @@ returns-in-Ok-Open-clause-right g c =
     judged_open g.D.Device.stands all c.args.report.now c.args.clusters i c.loop-index.done c.behind.result.now c.loop-index.rest.now c.judge-next.result.0 c.judge-next.result.1 c.in-Ok-Open.field-0 c.in-Ok-Open.is (rw c.in-Ok-Open.is at c.in-Ok-Open.field-0-is) c.loop-index.invariant.1
     (c.judge-next.ensures all c.args.report.now c.args.clusters i c.requires.report at)
     )
-
-pub returns-in-Err-clause-strays : goal.returns-in-Err-clause-strays
-returns-in-Err-clause-strays g c = λ lost.
-    let i = c.loop-index.index in
-    let all = c.args.events.now in
-    let at = subst (λ (es : List Event). Follows g.D.Device.stands all c.args.report.now c.args.clusters i es c.loop-index.rest.now c.loop-index.judge)
-    (left_is all i c.index-events-index.result c.behind.result.now c.index-events-index.is c.loop-index-test.true c.behind.ensures) c.loop-index.invariant.0 in
-    judged_stray g.D.Device.stands all c.args.report.now c.args.clusters i c.behind.result.now c.loop-index.rest.now c.judge-next.result.0 c.judge-next.result.1 c.in-Err.fail c.in-Err.is lost
-    (c.judge-next.ensures all c.args.report.now c.args.clusters i c.requires.report at)
 
 pub loop-index-preserved : goal.loop-index-preserved
 loop-index-preserved g c =
@@ -61,8 +52,8 @@ loop-index-preserved g c =
     let done : c.loop-index.done + 1 ≡ i + 1 = omega (arith, c.loop-index.invariant.1) in
     (subst (λ (es : List Event). Follows g.D.Device.stands all c.args.report.now c.args.clusters (i + 1) es c.after-rest.result.now c.judge-next.result.0) c.behind.ensures on, done)
 
-pub returns-clause-right : goal.returns-clause-right
-returns-clause-right g c =
+pub returns : goal.returns
+returns g c =
     let i = c.loop-index.index in
     let all = c.args.events.now in
     let last : length all ≤ i = omega (arith, c.loop-index-test.false) in

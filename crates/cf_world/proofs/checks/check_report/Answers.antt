@@ -8,7 +8,7 @@ returns-in-Ok-clause-text g c =
     let same : c.deref.result.now ≡ c.in-Ok.text.items = c.deref.ensures.value in (
       c.deref.result.now,
       rw same c.in-Ok.ensures.ok,
-      of_text c.deref.result.now (g.K.Sink.held c.args.sink.now) (g.K.Sink.held c.judge_text-checked.new.sink) _ _ _ _ _ c.judge_text-checked.result.status c.judge_text-checked.ensures.writes c.judge_text-checked.ensures.bad c.judge_text-checked.ensures.read c.judge_text-checked.ensures.sink_fault c.judge_text-checked.ensures.silent,
+      of_text c.deref.result.now (g.K.Sink.held c.args.sink.now) (g.K.Sink.held c.judge_text-checked.new.sink) _ (rw same c.in-Ok.ensures.small) _ _ _ _ c.judge_text-checked.result.status c.judge_text-checked.ensures.writes c.judge_text-checked.ensures.bad c.judge_text-checked.ensures.read c.judge_text-checked.ensures.sink_fault,
     )
 
 pub returns-in-Err-clause-text : goal.returns-in-Err-clause-text
