@@ -1,5 +1,5 @@
 //! The live asks, by key and by item, with the ticks at which their time began.
-ghost use Rattle.std.specs.Prelude.{◌≡◌, ℕ, ◌+◌, ◌-◌, ◌^◌, ◌<◌, ◌≤◌, ◌++◌, ◌∷◌, ◌&&◌, [], cond, count_by, filter, find, length, List, map, nat_le, None, not, true, IfOk, IfSome, IsTrue, OnOk, option_copied};
+ghost use Rattle.std.specs.Prelude.{◌≡◌, ℕ, ◌+◌, ◌^◌, ◌<◌, ◌≤◌, ◌++◌, ◌∷◌, ◌&&◌, [], cond, count_by, filter, length, List, map, nat_le, None, not, true, IfOk, IfSome, IsTrue, OnOk};
 ghost use Rattle.std.specs.List.{AllByRecursion, list_any};
 ghost use Rattle.std.specs.Option.{option_map};
 ghost use Rattle.cf_ask_rule.specs.Fronts.{EndsBy, NeedsFrom};
@@ -10,11 +10,12 @@ ghost use Rattle.cf_model.specs.Missing.{View, Wait};
 ghost use Rattle.cf_model.specs.Numbers.{same_key};
 ghost use Rattle.cf_model.specs.Requests.{aged, is_data, live_of};
 ghost use Rattle.cf_model.specs.Words.{counting, says};
-ghost use Rattle.cf_waits.specs.Books.{aged_at, brought_forward, found_of, is_far, is_list_ask, is_plain_ask};
+ghost use Rattle.cf_waits.specs.Books.{aged_at, found_of, is_far, is_list_ask, is_plain_ask};
 ghost use Rattle.cf_waits.specs.Rising.{IsRising, ask_key};
 ghost use Rattle.cf_waits.specs.Steps.{is_gone};
 ghost use Rattle.cf_waits.specs.Told.{first_key, owns_by};
 
+use crate::ask_ages::{base_of, bring_forward, first_of_age, keys_of_age, oldest_of};
 use crate::ask_lists::{
     ask_there, change_ask, entry_of, find_ask, has_key, list_count, owns_by, place_from,
     plain_count, take_ask, told_of,
@@ -258,16 +259,6 @@ fn asks_behind(asks: &[LiveAsk], end: u64, block: u64) -> &[LiveAsk]
     &asks[..0]
 }
 
-// Ticks are counted anew, from the latest 60 on, after that many.
-const LATE: u64 = 1 << 62;
-
-fn base_of(tick: u64) -> u64
-    ensures few { result ≤ tick - 60 }
-    ensures rest { tick - result ≤ 2 ^ 62 }
-{
-    if tick < LATE { 0 } else { tick - 60 }
-}
-
 // The asks on one item mostly stand side by side, so the place after the last found is tried first.
 fn found_of(
     alloc: Global,
@@ -353,79 +344,4 @@ fn plain_but(asks: &[LiveAsk], cancelled: &[Key], dropped: Option<Key>) -> usize
     asks.iter()
         .filter(|a| !is_gone(a, cancelled, dropped) && !is_dehydrate(a.ask().kind))
         .count()
-}
-
-fn keys_of_age(alloc: Global, asks: &[LiveAsk], tick: u64) -> Result<Vec<Key>, OutOfMemory>
-    ensures { IfOk result (λ keys. keys.items ≡ map (λ a. a.ask.key) (filter (λ a. nat_le 60 (tick - a.ticks)) asks.now)) }
-{
-    Ok(
-        asks.iter()
-            .filter(|a| tick.saturating_sub(a.ticks()) >= 60)
-            .map(|a| a.ask().key)
-            .collect(alloc)?,
-    )
-}
-
-fn first_of_age(asks: &[LiveAsk], tick: u64, least: u64) -> Option<Key>
-    ensures { result ≡ option_map (λ a. a.ask.key) (find (λ a. nat_le least (tick - a.ticks)) asks.now) }
-{
-    key_of(first_old(asks, tick, least))
-}
-
-fn first_old(asks: &[LiveAsk], tick: u64, least: u64) -> Option<&LiveAsk>
-    ensures { option_copied result ≡ find (λ a. nat_le least (tick - a.ticks)) asks.now }
-{
-    asks.iter()
-        .find(|a| tick.saturating_sub(a.ticks()) >= least)
-}
-
-fn key_of(ask: Option<&LiveAsk>) -> Option<Key>
-    ensures { result ≡ option_map (λ a. a.ask.key) (option_copied ask.entry) }
-{
-    match ask {
-        Some(a) => Some(a.ask().key),
-        None => None,
-    }
-}
-
-// A tick that is not after any at which the time of an ask began. One that is known serves until an ask could be due.
-fn oldest_of(asks: &[LiveAsk], known: u64, tick: u64) -> u64
-    requires begun { AllByRecursion (λ a. known ≤ a.ticks) asks.now }
-    requires known { known ≤ tick }
-    ensures least { AllByRecursion (λ a. result ≤ a.ticks) asks.now }
-    ensures now { result ≤ tick }
-{
-    if tick - known < 60 {
-        known
-    } else {
-        least_of(asks, tick)
-    }
-}
-
-fn least_of(asks: &[LiveAsk], tick: u64) -> u64
-    ensures least { AllByRecursion (λ a. result ≤ a.ticks) asks.now }
-    ensures now { result ≤ tick }
-{
-    let mut least = tick;
-    for a in asks {
-        least = least.min(a.ticks());
-    }
-    least
-}
-
-fn bring_forward(asks: &mut Vec<LiveAsk>, base: u64)
-    ensures items { asks.new.items ≡ map (brought_forward base) asks.old.items }
-{
-    if base > 0 {
-        bring_all_forward(asks, base);
-    }
-}
-
-fn bring_all_forward(asks: &mut Vec<LiveAsk>, base: u64)
-    ensures items { asks.new.items ≡ map (brought_forward base) asks.old.items }
-{
-    for a in asks.iter_mut() {
-        let ticks = a.ticks().saturating_sub(base);
-        a.set_ticks(ticks);
-    }
 }

@@ -1,6 +1,7 @@
 //! The calls that wait, what the provider is asked for them, and how both end.
 #![tactic(auto)]
 
+mod ask_ages;
 mod ask_books;
 mod ask_lists;
 mod begins;

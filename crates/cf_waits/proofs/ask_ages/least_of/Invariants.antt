@@ -1,6 +1,6 @@
 use Rattle.std.proofs.Common.{◌≤◌, take}
 use Rattle.std.specs.List.{AllByRecursion}
-use Rattle.cf_waits.proofs.ask_books.least_of.Given as goal
+use Rattle.cf_waits.proofs.ask_ages.least_of.Given as goal
 
 -- none of the asks so far began before
 abbrev pub invariant-loop-a : goal.invariant-loop-a

@@ -1,7 +1,7 @@
 use Rattle.std.proofs.Common.{◌≡◌, take, drop}
 use Rattle.std.specs.Prelude.{map}
 use Rattle.cf_waits.specs.Books.{brought_forward}
-use Rattle.cf_waits.proofs.ask_books.bring_all_forward.Given as goal
+use Rattle.cf_waits.proofs.ask_ages.bring_all_forward.Given as goal
 
 -- the asks so far are brought forward, and the others as they were
 abbrev pub invariant-loop-a : goal.invariant-loop-a

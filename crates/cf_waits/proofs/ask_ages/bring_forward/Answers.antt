@@ -2,7 +2,7 @@ use Rattle.std.proofs.Common.{◌≡◌, ℕ, ◌-◌, List, [], ◌∷◌, ◌�
 use Rattle.std.specs.Prelude.{map}
 use Rattle.cf_model.specs.Requests.{Live}
 use Rattle.cf_waits.specs.Books.{brought_forward}
-use Rattle.cf_waits.proofs.ask_books.bring_forward.Goals as goal
+use Rattle.cf_waits.proofs.ask_ages.bring_forward.Goals as goal
 
 pub returns-else-base-gt0 : goal.returns-else-base-gt0
 returns-else-base-gt0 c = record { items = stays c.args.base (omega (arith, c.if-base-gt0.false)) c.args.asks.now.items } where
