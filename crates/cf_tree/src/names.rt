@@ -74,7 +74,11 @@ impl<'a> Names<'a> {
 fn is_name_byte(byte: u8) -> bool
     ensures { result ≡ is_name_byte byte }
 {
-    byte >= 32 && byte != 127 && !b"/\\:*?\"<>|".contains(&byte)
+    match byte {
+        0..=31 | 127 => false,
+        b'"' | b'*' | b'/' | b':' | b'<' | b'>' | b'?' | b'\\' | b'|' => false,
+        _ => true,
+    }
 }
 
 fn all_name_bytes(text: &[u8]) -> bool
