@@ -87,7 +87,7 @@ impl Data {
         ensures { IfOk result (Opens clusters []) }
     {
         let order = numbers(alloc, clusters)?;
-        let places = numbers(alloc, clusters)?;
+        let places = Vec::from_slice(alloc, &order)?;
         let free_numbers = FreeNumbers::all(alloc, clusters)?;
         Ok(Data::fresh(order, places, free_numbers, clusters))
     }
