@@ -113,7 +113,8 @@ impl FreeNumbers {
         ensures { IfOk result (λ f. f ≡ replicate count true) }
     {
         let width = count as usize + 1;
-        let mut least = vec![in alloc; 0; 2 * width]?;
+        let mut least = Vec::with_capacity(alloc, 2 * width)?;
+        least.resize(2 * width, 0)?;
         put_all_vec(&mut least, width);
         Ok(FreeNumbers { least, count })
     }

@@ -61,7 +61,8 @@ pub(crate) fn load<D: Disk>(
     ensures reads { ReadsOnly (D.state disk.old) (D.state disk.new) }
     ensures cause { IfErr result (λ e. IsOpenCause e (D.state disk.old) (D.state disk.new)) }
 {
-    let mut v = vec![in alloc; 0u8; len]?;
+    let mut v = Vec::with_capacity(alloc, len)?;
+    v.resize(len, 0)?;
     disk.read(at, &mut v)?;
     Ok(v)
 }
