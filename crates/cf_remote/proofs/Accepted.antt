@@ -141,9 +141,9 @@ item_free items parent p name n but a b h =
     subst (λ (x : Rid). list_any (λ s. s.live && (s.parent.0 == x.0) && same s.name n && not (s.rid.0 == but.0)) items ≡ false) (sym a)
     (subst (λ (x : List ℕ). list_any (λ s. s.live && (s.parent.0 == parent.0) && same s.name x && not (s.rid.0 == but.0)) items ≡ false) (sym b) h)
 
-pub file_fits : (held : Held) (parent : Rid) (name bytes : List ℕ) (item : Stored) (b : List ℕ) → item.versions ≡ b ∷ [] → item.least ≡ 1 → b ≡ bytes
+pub file_fits : (held : Held) (parent : Rid) (name bytes : List ℕ) (item : Stored) → item.versions ≡ bytes ∷ [] → item.least ≡ 1
     → sum_by held_len (with_new held parent name false (bytes ∷ [])) ≤ 536870912 → sum_by held_len held.items + held_len item ≤ 536870912
-file_fits held parent name bytes item b versions least same fits =
+file_fits held parent name bytes item versions least fits =
     let made : Stored = record { rid = next_rid held; parent = parent; name = name; directory = false; live = true; versions = bytes ∷ []; least = 1; changed = held.clock + 1 } in
-    let alike : held_len item ≡ held_len made = (λ i. sum_by length (drop (least i - 1) (versions i))) ∙ ap (λ (x : List ℕ). sum_by length (drop (1 - 1) (x ∷ []))) same in
+    let alike : held_len item ≡ held_len made = λ i. sum_by length (drop (least i - 1) (versions i)) in
     omega (arith, fits, sum_by_push held_len held.items made, alike)

@@ -168,3 +168,7 @@ tell_finishes p rid version next old a e f = subst (λ (x : Plan). Does (finish 
 pub send_finishes : (p : Plan) (q : Request) (next : ℕ) (old : Told) (result : Result Answer OutOfMemory) (after : ℕ) (new : Told) → p ≡ plan.Send q → Does (send_request q) next old result after new
     → Does (finish p) next old result after new
 send_finishes p q next old result after new e h = subst (λ (x : Plan). Does (finish x) next old result after new) (sym e) h
+
+-- memory runs out before the ask
+pub unsent_does : (q : Request) (next : ℕ) (old : Told) (m : OutOfMemory) (result : Result Answer OutOfMemory) → IsErrAnd result (λ y. y ≡ m) → Does (send_request q) next old result (next + 1) old
+unsent_does q next old m result is = subst (λ (o : Result Answer OutOfMemory). Does (send_request q) next old o (next + 1) old) (sym (err_from_is_err_and result is).1) (omega arith, omega arith, λ s st. inl refl)

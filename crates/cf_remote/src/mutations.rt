@@ -16,12 +16,12 @@ impl Store {
         &mut self,
         token: Token,
         parent: Rid,
-        name: &Blob,
-        bytes: &Blob,
+        name: Blob,
+        bytes: Blob,
     ) -> Result<Reply, OutOfMemory>
-        requires name { length name.now ≤ 255 }
+        requires name { length name ≤ 255 }
         requires new { recorded_at self.old.tokens token ≡ None }
-        ensures { Decides token (put_new self.old parent name.now bytes.now) self.old result self.new }
+        ensures { Decides token (put_new self.old parent name bytes) self.old result self.new }
     {
         let why = why_new_file(
             self.alloc,
@@ -31,7 +31,11 @@ impl Store {
             bytes.as_slice(),
         )?;
         match why {
-            Some(why) => self.refuse(token, why, Version(0)),
+            Some(why) => {
+                drop(name);
+                drop(bytes);
+                self.refuse(token, why, Version(0))
+            }
             None => self.add_file(token, parent, name, bytes),
         }
     }
@@ -40,16 +44,14 @@ impl Store {
         &mut self,
         token: Token,
         parent: Rid,
-        name: &Blob,
-        bytes: &Blob,
+        name: Blob,
+        bytes: Blob,
     ) -> Result<Reply, OutOfMemory>
-        requires name { length name.now ≤ 255 }
+        requires name { length name ≤ 255 }
         requires new { recorded_at self.old.tokens token ≡ None }
-        requires accepted { why_new_file self.old parent name.now bytes.now ≡ None }
-        ensures { Gives (decide self.old token (put_new self.old parent name.now bytes.now) None) self.old result self.new }
+        requires accepted { why_new_file self.old parent name bytes ≡ None }
+        ensures { Gives (decide self.old token (put_new self.old parent name bytes) None) self.old result self.new }
     {
-        let name = name.copy()?;
-        let bytes = bytes.copy()?;
         let clock = clock_after(self.clock, &self.tokens);
         let rid = self.shelf.next_rid();
         let item = StoredItem::file(self.alloc, rid, parent, name, bytes, clock)?;
@@ -66,25 +68,27 @@ impl Store {
         &mut self,
         token: Token,
         parent: Rid,
-        name: &Blob,
+        name: Blob,
     ) -> Result<Reply, OutOfMemory>
-        requires name { length name.now ≤ 255 }
+        requires name { length name ≤ 255 }
         requires new { recorded_at self.old.tokens token ≡ None }
-        ensures { Decides token (make_dir self.old parent name.now) self.old result self.new }
+        ensures { Decides token (make_dir self.old parent name) self.old result self.new }
     {
         match why_new_dir(self.alloc, &self.shelf, parent, name.as_slice())? {
-            Some(why) => self.refuse(token, why, Version(0)),
+            Some(why) => {
+                drop(name);
+                self.refuse(token, why, Version(0))
+            }
             None => self.add_dir(token, parent, name),
         }
     }
 
-    fn add_dir(&mut self, token: Token, parent: Rid, name: &Blob) -> Result<Reply, OutOfMemory>
-        requires name { length name.now ≤ 255 }
+    fn add_dir(&mut self, token: Token, parent: Rid, name: Blob) -> Result<Reply, OutOfMemory>
+        requires name { length name ≤ 255 }
         requires new { recorded_at self.old.tokens token ≡ None }
-        requires accepted { why_new_dir self.old parent name.now ≡ None }
-        ensures { Gives (decide self.old token (make_dir self.old parent name.now) None) self.old result self.new }
+        requires accepted { why_new_dir self.old parent name ≡ None }
+        ensures { Gives (decide self.old token (make_dir self.old parent name) None) self.old result self.new }
     {
-        let name = name.copy()?;
         let clock = clock_after(self.clock, &self.tokens);
         let rid = self.shelf.next_rid();
         let item = StoredItem::directory(self.alloc, rid, parent, name, clock);
@@ -102,13 +106,14 @@ impl Store {
         token: Token,
         rid: Rid,
         expect: Version,
-        bytes: &Blob,
+        bytes: Blob,
     ) -> Result<Reply, OutOfMemory>
         requires { recorded_at self.old.tokens token ≡ None }
-        ensures { Decides token (put_version self.old rid expect bytes.now) self.old result self.new }
+        ensures { Decides token (put_version self.old rid expect bytes) self.old result self.new }
     {
         match why_version(&self.shelf, rid, expect, bytes.as_slice(), self.keep) {
             Some(why) => {
+                drop(bytes);
                 let version = version_told(latest_of(&self.shelf, rid), why);
                 self.refuse(token, why, version)
             }
@@ -121,13 +126,12 @@ impl Store {
         token: Token,
         rid: Rid,
         expect: Version,
-        bytes: &Blob,
+        bytes: Blob,
     ) -> Result<Reply, OutOfMemory>
         requires new { recorded_at self.old.tokens token ≡ None }
-        requires accepted { why_version self.old rid expect bytes.now ≡ None }
-        ensures { Gives (decide self.old token (put_version self.old rid expect bytes.now) None) self.old result self.new }
+        requires accepted { why_version self.old rid expect bytes ≡ None }
+        ensures { Gives (decide self.old token (put_version self.old rid expect bytes) None) self.old result self.new }
     {
-        let bytes = bytes.copy()?;
         let clock = clock_after(self.clock, &self.tokens);
         let version = self
             .shelf
@@ -145,14 +149,17 @@ impl Store {
         token: Token,
         rid: Rid,
         parent: Rid,
-        name: &Blob,
+        name: Blob,
     ) -> Result<Reply, OutOfMemory>
-        requires name { length name.now ≤ 255 }
+        requires name { length name ≤ 255 }
         requires new { recorded_at self.old.tokens token ≡ None }
-        ensures { Decides token (move_to self.old rid parent name.now) self.old result self.new }
+        ensures { Decides token (move_to self.old rid parent name) self.old result self.new }
     {
         match why_move(self.alloc, &self.shelf, rid, parent, name.as_slice())? {
-            Some(why) => self.refuse(token, why, Version(0)),
+            Some(why) => {
+                drop(name);
+                self.refuse(token, why, Version(0))
+            }
             None => self.place(token, rid, parent, name),
         }
     }
@@ -162,14 +169,13 @@ impl Store {
         token: Token,
         rid: Rid,
         parent: Rid,
-        name: &Blob,
+        name: Blob,
     ) -> Result<Reply, OutOfMemory>
-        requires name { length name.now ≤ 255 }
+        requires name { length name ≤ 255 }
         requires new { recorded_at self.old.tokens token ≡ None }
-        requires accepted { why_move self.old rid parent name.now ≡ None }
-        ensures { Gives (decide self.old token (move_to self.old rid parent name.now) None) self.old result self.new }
+        requires accepted { why_move self.old rid parent name ≡ None }
+        ensures { Gives (decide self.old token (move_to self.old rid parent name) None) self.old result self.new }
     {
-        let name = name.copy()?;
         let clock = clock_after(self.clock, &self.tokens);
         let version = latest_of(&self.shelf, rid);
         self.tokens.record(token, Outcome::Done { rid, version })?;

@@ -26,7 +26,7 @@ fn finish<R: Remote>(
         Plan::Tell(rid, version) => Ok(answer(alloc, Shown::Remote { rid, version }, None)),
         Plan::Send(q) => {
             *next += 1;
-            send(alloc, remote, &q)
+            send(alloc, remote, q)
         }
     }
 }

@@ -22,6 +22,17 @@ pub trait Remote {
         requires { HasRoom q.now }
         ensures { Asks q.now (told self.old) result (told self.new) };
 
+    /// As `ask`, of a request that is handed over. This body lends it; a remote that keeps the bytes of a put gives its own, and
+    /// need not copy them.
+    fn ask_owned(&mut self, q: Request) -> Result<Reply, AskError>
+        requires { HasRoom q }
+        ensures { Asks q (told self.old) result (told self.new) }
+    {
+        let reply = self.ask(&q);
+        drop(q);
+        reply
+    }
+
     /// The entry of a name in a directory, as a List of the directory and a search among its entries give it. It is one
     /// ask, and fails as one. This body makes the listing; a remote that has an index gives its own. A Fault is answered
     /// only where the count of faults rose, and then what the remote holds is as before. Stray has the reply, where that does

@@ -1,14 +1,15 @@
 //! The request of a peer event.
 
-ghost use Rattle.std.specs.Prelude.{◌≡◌, ◌+◌, ℕ, []};
-ghost use Rattle.cf_model.specs.Peers.{code_of, send_request};
+ghost use Rattle.std.specs.Prelude.{◌≡◌, ◌+◌, ℕ, [], IfOk};
+ghost use Rattle.cf_base.specs.declared.messages.Reply.{Reply};
+ghost use Rattle.cf_model.specs.Peers.{code_of, is_fit, send_request};
 ghost use Rattle.cf_remote.specs.LookUps.{IsFailed, Shows, verdict};
 ghost use Rattle.cf_remote.specs.Peers.{Does};
 ghost use Rattle.cf_wire.specs.Spelled.{HasRoom};
 
 use crate::ask_errors::AskError;
 use crate::remotes::Remote;
-use cf_base::{Answer, Code, Notes, OutOfMemory, Reply, Request, Rid, Shown, Why};
+use cf_base::{Answer, Blob, Code, Notes, OutOfMemory, Reply, Request, Rid, Shown, Why};
 use cf_wire::{NoItems, fits};
 use std::alloc::Global;
 
@@ -81,19 +82,48 @@ fn failed(alloc: Global, e: AskError) -> Result<Answer, OutOfMemory>
     }
 }
 
-/// Sends the request, which has the next token of a peer, and answers by its reply.
+/// The request, but a put without its name and bytes. The same replies fit it.
+fn without_bytes(alloc: Global, q: &Request) -> Result<Request, OutOfMemory>
+    ensures { IfOk result (λ b. (r : Reply) → is_fit b r ≡ is_fit q.now r) }
+{
+    match q {
+        Request::Put {
+            token,
+            rid,
+            expect,
+            parent,
+            ..
+        } => Ok(Request::Put {
+            token: *token,
+            rid: *rid,
+            expect: *expect,
+            parent: *parent,
+            name: Blob::from_vec(Vec::new(alloc)),
+            bytes: Blob::from_vec(Vec::new(alloc)),
+        }),
+        q => q.copy(),
+    }
+}
+
+/// Sends the request, which has the next token of a peer, and answers by its reply. The bytes of a put are handed over, so that
+/// the remote need not copy them.
 pub(crate) fn send<R: Remote>(
     alloc: Global,
     remote: &mut R,
-    q: &Request,
+    q: Request,
 ) -> Result<Answer, OutOfMemory>
-    requires { HasRoom q.now }
-    ensures { (next : ℕ) → Does (send_request q.now) next (R.told remote.old) result (next + 1) (R.told remote.new) }
+    requires { HasRoom q }
+    ensures { (next : ℕ) → Does (send_request q) next (R.told remote.old) result (next + 1) (R.told remote.new) }
 {
-    match remote.ask(q) {
-        Err(e) => failed(alloc, e),
+    let asked = without_bytes(alloc, &q)?;
+    match remote.ask_owned(q) {
+        Err(e) => {
+            drop(asked);
+            failed(alloc, e)
+        }
         Ok(reply) => {
-            let fit = fits(alloc, &NoItems, Rid(0), q, &reply)?;
+            let fit = fits(alloc, &NoItems, Rid(0), &asked, &reply)?;
+            drop(asked);
             Ok(answer_by(alloc, reply, fit))
         }
     }

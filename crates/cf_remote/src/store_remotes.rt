@@ -42,7 +42,14 @@ impl StoreRemote {
 impl Remote for StoreRemote {
     ghost told = { λ r. record { held = Some r.held; asks = Some r.asks; fails = Some []; faults = 0 } };
 
+    /// It copies the request.
     fn ask(&mut self, q: &Request) -> Result<Reply, AskError> {
+        let q = q.copy()?;
+        self.ask_owned(q)
+    }
+
+    /// It keeps the bytes of a put, and does not copy them.
+    fn ask_owned(&mut self, q: Request) -> Result<Reply, AskError> {
         let reply = self.store.step(q)?;
         self.asks = self.asks.saturating_add(1);
         Ok(reply)

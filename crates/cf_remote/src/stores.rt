@@ -1,6 +1,6 @@
 //! What the remote holds, and what requests make of it.
 
-ghost use Rattle.std.specs.Prelude.{◌≡◌, ◌<◌, ◌^◌, IfOk, OnOk, OnErr, None, length, option_map};
+ghost use Rattle.std.specs.Prelude.{◌≡◌, ◌≤◌, ◌<◌, ◌^◌, IfOk, OnOk, OnErr, None, length, option_map};
 ghost use Rattle.cf_base.specs.declared.messages.Reply.TheVariants as reply;
 ghost use Rattle.cf_base.specs.declared.messages.Request.TheVariants as request;
 ghost use Rattle.cf_model.specs.Peers.{named};
@@ -13,7 +13,9 @@ use crate::decisions::is_live_dir;
 use crate::outcomes::Outcome;
 use crate::shelves::{Shelf, first_shelf};
 use crate::tokens::Tokens;
-use cf_base::{Entry, Key, OutOfMemory, Reply, Request, Rid, Round, Sequence, Token, Version, Why};
+use cf_base::{
+    Blob, Entry, Key, OutOfMemory, Reply, Request, Rid, Round, Sequence, Token, Version, Why,
+};
 use std::alloc::Global;
 use std::marker::Model;
 
@@ -190,24 +192,51 @@ impl Store {
         })
     }
 
-    /// Does a request by the rules of the remote. Without memory nothing changes. It takes time by the logarithm of the
-    /// number of items, and by the depth; a Feed and the Move of a directory with children go through all items, a Keep
-    /// through all and the versions that it drops.
-    pub(crate) fn step(&mut self, q: &Request) -> Result<Reply, OutOfMemory>
-        requires { HasRoom q.now }
-        ensures step { Gives (remote_step self.old q.now) self.old result self.new }
+    fn put(
+        &mut self,
+        token: Token,
+        rid: Rid,
+        expect: Version,
+        parent: Rid,
+        name: Blob,
+        bytes: Blob,
+    ) -> Result<Reply, OutOfMemory>
+        requires { length name ≤ 255 }
+        ensures step { Gives (remote_step self.old (request.Put token rid expect parent name bytes)) self.old result self.new }
+        ensures room { IfOk result ReplyHasRoom }
+    {
+        match self.recall(token) {
+            Some(reply) => {
+                drop(name);
+                drop(bytes);
+                Ok(reply)
+            }
+            None if rid.0 == 0 => self.put_new(token, parent, name, bytes),
+            None => {
+                drop(name);
+                self.put_version(token, rid, expect, bytes)
+            }
+        }
+    }
+
+    /// Does a request by the rules of the remote. It keeps the bytes of a put, and does not copy them. Without memory nothing
+    /// changes. It takes time by the logarithm of the number of items, and by the depth; a Feed and the Move of a directory with
+    /// children go through all items, a Keep through all and the versions that it drops.
+    pub(crate) fn step(&mut self, q: Request) -> Result<Reply, OutOfMemory>
+        requires { HasRoom q }
+        ensures step { Gives (remote_step self.old q) self.old result self.new }
         ensures room { IfOk result ReplyHasRoom }
     {
         match q {
-            Request::Feed { round, after } => self.feed(*round, *after),
-            Request::List { key, rid } => self.list(*key, *rid),
+            Request::Feed { round, after } => self.feed(round, after),
+            Request::List { key, rid } => self.list(key, rid),
             Request::Fetch {
                 key,
                 rid,
                 version,
                 start,
                 len,
-            } => self.fetch(*key, *rid, *version, *start, *len),
+            } => self.fetch(key, rid, version, start, len),
             Request::Put {
                 token,
                 rid,
@@ -215,36 +244,38 @@ impl Store {
                 parent,
                 name,
                 bytes,
-            } => match self.recall(*token) {
-                Some(reply) => Ok(reply),
-                None if rid.0 == 0 => self.put_new(*token, *parent, name, bytes),
-                None => self.put_version(*token, *rid, *expect, bytes),
-            },
+            } => self.put(token, rid, expect, parent, name, bytes),
             Request::MakeDir {
                 token,
                 parent,
                 name,
-            } => match self.recall(*token) {
-                Some(reply) => Ok(reply),
-                None => self.make_dir(*token, *parent, name),
+            } => match self.recall(token) {
+                Some(reply) => {
+                    drop(name);
+                    Ok(reply)
+                }
+                None => self.make_dir(token, parent, name),
             },
             Request::Move {
                 token,
                 rid,
                 parent,
                 name,
-            } => match self.recall(*token) {
-                Some(reply) => Ok(reply),
-                None => self.move_to(*token, *rid, *parent, name),
+            } => match self.recall(token) {
+                Some(reply) => {
+                    drop(name);
+                    Ok(reply)
+                }
+                None => self.move_to(token, rid, parent, name),
             },
-            Request::Remove { token, rid, expect } => match self.recall(*token) {
+            Request::Remove { token, rid, expect } => match self.recall(token) {
                 Some(reply) => Ok(reply),
-                None => self.remove(*token, *rid, *expect),
+                None => self.remove(token, rid, expect),
             },
-            Request::Settle { token } => self.settle(*token),
-            Request::Keep { token, count } => match self.recall(*token) {
+            Request::Settle { token } => self.settle(token),
+            Request::Keep { token, count } => match self.recall(token) {
                 Some(reply) => Ok(reply),
-                None => self.keep_last(*token, *count),
+                None => self.keep_last(token, count),
             },
         }
     }

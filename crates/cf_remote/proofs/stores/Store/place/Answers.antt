@@ -6,15 +6,15 @@ use Rattle.cf_remote.proofs.Doing.{done_is, version_is}
 use Rattle.cf_remote.proofs.stores.Store.place.Goals as goal
 
 pub place-requires-clause-free : goal.place-requires-clause-free
-place-requires-clause-free c = item_free c.self.inside.shelf c.args.parent c.args.parent c.args.name.now c.in_ok-name.name c.args.rid refl c.in_ok-name.ensures
-    (other_place (holding c.self.inside.shelf c.self.inside.clock c.self.inside.tokens c.self.inside.keep) c.args.rid c.args.parent c.args.name.now (rw (← c.self.view_is) at c.requires.accepted)).free
+place-requires-clause-free c = item_free c.self.inside.shelf c.args.parent c.args.parent c.args.name c.args.name c.args.rid refl refl
+    (other_place (holding c.self.inside.shelf c.self.inside.clock c.self.inside.tokens c.self.inside.keep) c.args.rid c.args.parent c.args.name (rw (← c.self.view_is) at c.requires.accepted)).free
 
 pub place-requires-clause-inside : goal.place-requires-clause-inside
 place-requires-clause-inside c =
-    (other_place (holding c.self.inside.shelf c.self.inside.clock c.self.inside.tokens c.self.inside.keep) c.args.rid c.args.parent c.args.name.now (rw (← c.self.view_is) at c.requires.accepted)).inside
+    (other_place (holding c.self.inside.shelf c.self.inside.clock c.self.inside.tokens c.self.inside.keep) c.args.rid c.args.parent c.args.name (rw (← c.self.view_is) at c.requires.accepted)).inside
 
 pub returns : goal.returns
-returns c = rw (← c.self.view_is) (done_is (holding c.self.inside.shelf c.self.inside.clock c.self.inside.tokens c.self.inside.keep) c.args.token (move_to (holding c.self.inside.shelf c.self.inside.clock c.self.inside.tokens c.self.inside.keep) c.args.rid c.args.parent c.args.name.now) c.args.rid c.latest_of-version.result c.place.new.self c.clock_after-clock.result c.record.new.self
+returns c = rw (← c.self.view_is) (done_is (holding c.self.inside.shelf c.self.inside.clock c.self.inside.tokens c.self.inside.keep) c.args.token (move_to (holding c.self.inside.shelf c.self.inside.clock c.self.inside.tokens c.self.inside.keep) c.args.rid c.args.parent c.args.name) c.args.rid c.latest_of-version.result c.place.new.self c.clock_after-clock.result c.record.new.self
     refl (version_is c.latest_of-version.result _ c.latest_of-version.ensures.latest)
-    (c.place.ensures ∙ (λ i. at_rid c.args.rid (λ (s : Stored). record s { parent = c.args.parent; name = c.in_ok-name.ensures i; changed = c.clock_after-clock.ensures i }) c.self.inside.shelf))
+    (c.place.ensures ∙ (λ i. at_rid c.args.rid (λ (s : Stored). record s { parent = c.args.parent; name = c.args.name; changed = c.clock_after-clock.ensures i }) c.self.inside.shelf))
     c.clock_after-clock.ensures c.in_ok-record.ensures.ok)
