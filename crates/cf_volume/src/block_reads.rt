@@ -37,7 +37,7 @@ pub(crate) fn read_span<D: Disk>(
 {
     let end = span.start + span.len;
     let mut at = span.start;
-    let mut bytes = Vec::new(alloc);
+    let mut bytes = Vec::with_capacity(alloc, span.len as usize)?;
     while at < end {
         let number = at / 4096;
         let next = end.min(4096 * number + 4096);

@@ -9,7 +9,7 @@ use Rattle.cf_volume.proofs.block_reads.read_span.Goals as goal
 
 pub loop-at-init : goal.loop-at-init
 loop-at-init g c =
-    subst (λ bytes. HasRead c.args.extents.now c.args.span.start (c.args.span.start + c.args.span.len) c.args.span.start bytes (g.D.Disk.state c.args.disk.now) (g.D.Disk.state c.args.disk.now)) (sym c.new-bytes.ensures.items)
+    subst (λ bytes. HasRead c.args.extents.now c.args.span.start (c.args.span.start + c.args.span.len) c.args.span.start bytes (g.D.Disk.state c.args.disk.now) (g.D.Disk.state c.args.disk.now)) (sym c.in_ok-bytes.ensures.items)
     (read_none c.args.extents.now c.args.span.start (c.args.span.start + c.args.span.len) (g.D.Disk.state c.args.disk.now) (omega arith))
 
 pub loop-at-preserved : goal.loop-at-preserved
@@ -37,7 +37,7 @@ pub returns-in_err-load-clause-ran : goal.returns-in_err-load-clause-ran
 returns-in_err-load-clause-ran g c = ran_then 0 0 (g.D.Disk.state c.args.disk.now) (g.D.Disk.state c.loop-at.disk) (g.D.Disk.state c.load.new.disk) c.loop-at.invariant.ran c.load.ensures.ran
 
 pub returns-in_err-load-clause-cause : goal.returns-in_err-load-clause-cause
-returns-in_err-load-clause-cause g c = stop_later c.from_residual.result c.in_err-load.field-0.0 (g.D.Disk.state c.args.disk.now) (g.D.Disk.state c.loop-at.disk) (g.D.Disk.state c.load.new.disk) c.from_residual.ensures.1 c.in_err-load.ensures.cause c.loop-at.invariant.ran.faults c.loop-at.invariant.ran.calm
+returns-in_err-load-clause-cause g c = stop_later c.from_residual-in_err-load.result c.in_err-load.field-0.0 (g.D.Disk.state c.args.disk.now) (g.D.Disk.state c.loop-at.disk) (g.D.Disk.state c.load.new.disk) c.from_residual-in_err-load.ensures.1 c.in_err-load.ensures.cause c.loop-at.invariant.ran.faults c.loop-at.invariant.ran.calm
 
 pub returns-in_err-extend_from_slice-clause-keeps : goal.returns-in_err-extend_from_slice-clause-keeps
 returns-in_err-extend_from_slice-clause-keeps g c = reads_keep c.args.extents.now c.args.span.start (c.args.span.start + c.args.span.len) c.loop-at.at 0 0 0 c.loop-at.bytes.items c.loop-at.bytes.items c.loop-at.bytes.items (g.D.Disk.state c.args.disk.now) (g.D.Disk.state c.loop-at.disk) (g.D.Disk.state c.load.new.disk) c.loop-at.invariant c.load.ensures.keeps c.load.ensures.crash
