@@ -12,7 +12,7 @@ runs_after low [] h = tt
 runs_after low (r ∷ rs) h = (omega arith, h.1, h.2, h.3)
 
 -- a run that ends by the start of the block does not touch it
-ended : (u n b : ℕ) (v : Bool) → u + n ≤ 4096 * b → ((nat_lt u (4096 * b + 4096) && nat_lt (4096 * b) (u + n)) || v) ≡ v
+pub ended : (u n b : ℕ) (v : Bool) → u + n ≤ 4096 * b → ((nat_lt u (4096 * b + 4096) && nat_lt (4096 * b) (u + n)) || v) ≡ v
 ended u n b true h = grind (arith, nat_tests)
 ended u n b false h = grind (arith, nat_tests)
 

@@ -40,3 +40,4 @@ pub mod FirstDraft
 pub mod BesideRoom
 pub mod BlocksAhead
 pub mod Counting
+pub mod FewBlocks

@@ -14,7 +14,7 @@ use Rattle.cf_volume.specs.Writable.{are_low, has_low_ends}
 abbrev is_low : Span → Bool
 is_low s = ltb (s.start + s.len) 4294967296
 
-last_high : (low n : ℕ) (runs : List Span) (s : Span) → IsRunsFrom low runs → length runs ≡ suc n → slice_get runs n ≡ Some s → low ≤ s.start + s.len
+pub last_high : (low n : ℕ) (runs : List Span) (s : Span) → IsRunsFrom low runs → length runs ≡ suc n → slice_get runs n ≡ Some s → low ≤ s.start + s.len
 last_high low n [] s r e at = absurd (none-some s at)
 last_high low zero (x ∷ xs) s r e at = let same = ap (λ (y : Span). y.start + y.len) (same_Some x s at) in omega (arith, same, r.0)
 last_high low (suc n) (x ∷ xs) s r e at = let rest = last_high (x.start + x.len + 1) n xs s r.3 (omega (arith, e)) at in omega (arith, rest, r.0)

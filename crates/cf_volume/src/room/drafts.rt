@@ -10,7 +10,7 @@ ghost use Rattle.cf_table.specs.Tables.{IsStored, IsTableRow, RisesFrom, row_of,
 ghost use Rattle.cf_volume.specs.Drafts.{added, is_gone, pin_in, row_in, row_sizes};
 
 use crate::commits::no_rows;
-use crate::room::lengths::len_of;
+use crate::room::lengths::len_with;
 use crate::stay::clusters::tell_stored;
 use cf_base::{ItemId, OutOfMemory, Pin};
 use cf_clusters::Data;
@@ -62,10 +62,11 @@ fn sum_sizes(a: Sizes, b: Sizes) -> Result<Sizes, OutOfMemory>
 pub(crate) fn sizes_of(row: &Row) -> Sizes
     ensures { (n : ℕ) → IsBelow row.now.here (4096 * n) → result ≡ row_sizes row.now (touched row.now.here 0 n) }
 {
+    let blocks = row.here.blocks();
     Sizes {
-        bytes: len_of(row),
+        bytes: len_with(row, blocks),
         items: 1,
-        blocks: row.here.blocks() as u128,
+        blocks: blocks as u128,
     }
 }
 

@@ -18,7 +18,7 @@ ghost use Rattle.cf_volume.specs.Steady.{TestsLength, known_of};
 use crate::fullness::is_full;
 use crate::kinds::pin_for;
 use crate::parts::Parts;
-use crate::room::lengths::{is_too_long, len_of};
+use crate::room::lengths::is_too_long_with;
 use crate::stay::clusters::{Planned, plan_item};
 use cf_base::{Change, Code, OutOfMemory, Usn};
 use cf_disk::Disk;
@@ -54,7 +54,7 @@ fn lacks_table(contents: &Contents, change: &Change, planned: &Planned) -> bool
 {
     match contents.rows.get(item_of(change)) {
         None => unreachable!(),
-        Some(row) => is_too_long(contents, len_of(row), len_of(&planned.row)),
+        Some(row) => is_too_long_with(contents, row, &planned.row),
     }
 }
 
