@@ -41,3 +41,4 @@ pub mod BesideRoom
 pub mod BlocksAhead
 pub mod Counting
 pub mod FewBlocks
+pub mod KeptBytes

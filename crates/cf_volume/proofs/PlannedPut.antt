@@ -1,6 +1,6 @@
 -- A planned change of an item that stays, put.
-use Rattle.std.proofs.Common.{◌≡◌, ℕ, ◌+◌, ◌-◌, ◌/◌, ◌<◌, ◌≤◌, Bool, true, false, cond, List, length, sym, ◌∙◌, ap, subst, arith, Some, None}
-use Rattle.std.specs.Prelude.{All}
+use Rattle.std.proofs.Common.{◌≡◌, ℕ, ◌+◌, ◌-◌, ◌/◌, ◌<◌, ◌≤◌, true, List, length, sym, ◌∙◌, ap, subst, arith, Some, None}
+use Rattle.std.specs.Prelude.{All, filter, not}
 use Rattle.std.proofs.lemmas.Option.{none-some}
 use Rattle.cf_base.specs.declared.changes.Change.{Change}
 use Rattle.cf_base.specs.declared.ids.ItemId.{ItemId}
@@ -11,6 +11,7 @@ use Rattle.cf_disk.specs.Disk.{State, size_of}
 use Rattle.cf_model.specs.Changes.{next_number, put_change}
 use Rattle.cf_model.specs.Numbers.{usn_after}
 use Rattle.cf_model.specs.State.{Volume}
+use Rattle.cf_volume_points.proofs.Droppings.{drops_inside}
 use Rattle.cf_volume_points.proofs.Points.{Fair}
 use Rattle.cf_volume_points.specs.At.{At}
 use Rattle.cf_volume_points.specs.Holding.{CountsMore, FitsTable}
@@ -30,7 +31,7 @@ use Rattle.cf_table.specs.declared.rows.Row.{Row}
 use Rattle.cf_volume.proofs.Carried.{carried_at}
 use Rattle.cf_volume.proofs.Noted.{found_id}
 use Rattle.cf_volume.proofs.Puts.{all_with, found_inside, found_table, inside_named, inside_with, known_with, named_inside, next_with, puts_rise, some_row}
-use Rattle.cf_volume.specs.Laid.{AreRising, Carries, Plans}
+use Rattle.cf_volume.specs.Laid.{AreRising, Carries, Plans, may_be_gone}
 use Rattle.cf_volume.specs.Notes.{Notes}
 use Rattle.cf_volume.specs.Steady.{Steady}
 
@@ -67,14 +68,8 @@ module _ (s t : State) (k : Known) (c : Change) (planned : Row) (blocks : List �
     long = carries.settles.drops.long ∙ carries.settles.all.moves.long
 
     extents_inside : All (λ j. j < length uses) (clusters_in_row after_row)
-    extents_inside = inside_named (λ j. j < length uses) 0 carries.extents carries.settles.drops.rising (λ b n e. left b n e)
-      where
-        left : (b n : ℕ) → cluster_at carries.extents b ≡ Some n → n < length uses
-        left b n e = by (touches planned.here b) (sym (carries.settles.drops.each b) ∙ e)
-          where
-            by : (u : Bool) → cond u (cluster_at carries.settles.between b) None ≡ Some n → n < length uses
-            by true f = let h = carries.settles.all.inside b n f in omega (arith, h, carries.settles.drops.long)
-            by false f = absurd (none-some n f)
+    extents_inside = inside_named (λ j. j < length uses) 0 carries.extents carries.settles.drops.rising
+        (drops_inside (filter (λ b. not (touches planned.here b)) (may_be_gone c blocks carries.settles.between)) carries.settles.mid uses carries.settles.between carries.extents carries.settles.all.inside carries.settles.drops)
 
     pub planned_steady : Steady (size_of t) (record k { uses = uses; table = after; place = k.place + 1; count = k.count + 1; rows_then = then'; put_since = count })
     planned_steady = subst (λ (x : Table). Steady (size_of t) (record k { uses = uses; table = x; place = k.place + 1; count = k.count + 1; rows_then = then'; put_since = count })) (sym carries.table) (record {

@@ -1,8 +1,8 @@
 -- Blocks staged one after the other.
-use Rattle.std.proofs.Common.{◌≡◌, ℕ, zero, suc, ◌+◌, ◌*◌, ◌<◌, ◌≤◌, Bool, false, ◌||◌, eqb, List, [], ◌∷◌, ◌++◌, length, take, get_or, Option, Some, None, refl, sym, ◌∙◌, ap, subst, arith, inl, inr, length-append, length-take}
+use Rattle.std.proofs.Common.{◌≡◌, ℕ, zero, suc, ◌+◌, ◌*◌, ◌<◌, ◌≤◌, Bool, true, false, ◌||◌, eqb, List, [], ◌∷◌, ◌++◌, length, take, get_or, Option, Some, None, refl, sym, ◌∙◌, ap, subst, arith, inl, inr, length-append, length-take}
 use Rattle.std.proofs.lemmas.Bool.{ne_eqb, cases_eq}
 use Rattle.std.proofs.lemmas.Option.{same_Some}
-use Rattle.std.proofs.lemmas.Bool.{cond-true, cond-false, eq-eqb}
+use Rattle.std.proofs.lemmas.Bool.{cond-true, cond-false, eq-eqb, true≢false}
 use Rattle.cf_base.specs.declared.changes.Change.{Change}
 use Rattle.cf_volume_blocks.specs.Bytes.{is_among}
 use Rattle.cf_clusters.specs.Area.{KeepsWhere}
@@ -11,7 +11,7 @@ use Rattle.std.proofs.lemmas.List.{take_all}
 use Rattle.cf_volume.proofs.Staged.{same_here}
 use Rattle.cf_clusters.specs.declared.uses.Use.{Use}
 use Rattle.cf_disk.specs.Disk.{Leaves, State, may_fail}
-use Rattle.cf_volume_points.proofs.Stages.{leaves_on, length-staged, moves_none, moves_then, stage_blocks, stage_moves}
+use Rattle.cf_volume_points.proofs.Stages.{among_push, leaves_on, length-staged, moves_none, moves_then, stage_blocks, stage_moves}
 use Rattle.cf_volume_points.specs.Staging.{AreBlocks, Moves, StagesBlock}
 use Rattle.cf_volume_points.specs.Standing.{cluster_on}
 use Rattle.cf_ranges.specs.Pairs.{cluster_at}
@@ -72,6 +72,7 @@ module _ (c : Change) (row : Row) (blocks : List ℕ) (i : ℕ) (number : ℕ) (
     leaves = stage_crash leaves;
     ran = ran_less (4096 * length (take i blocks) + 4096) (4096 * length (take i blocks ++ number ∷ [])) s u (omega (arith, one_more)) (ran_then (4096 * length (take i blocks)) 4096 s t u all.ran ran);
     inside = λ b k e. inside b k e;
+    others = λ b out. others b (sym (among_push (take i blocks) number b) ∙ out);
     each = λ rest was item pin n means rising start.
         let now = all.each rest was item pin n means rising start in
         let fresh : is_among (take i blocks) number ≡ false = ap (is_among (take i blocks)) is ∙ not_yet 0 blocks i 0 rising lt in
@@ -97,6 +98,15 @@ module _ (c : Change) (row : Row) (blocks : List ℕ) (i : ℕ) (number : ℕ) (
             omega (arith, h, long)
       ]
 
+      neither : (x y : Bool) → (x || y) ≡ false → (x ≡ false) × (y ≡ false)
+      neither true y e = absurd (true≢false e)
+      neither false y e = (refl, e)
+
+      others : (b : ℕ) → (is_among (take i blocks) b || eqb number b) ≡ false → cluster_at gs b ≡ cluster_at es b
+      others b out =
+          let apart = neither (is_among (take i blocks) b) (eqb number b) out in
+          st.puts b ∙ cond-false (eqb b number) _ _ (ne_eqb b number (λ same. true≢false (sym (eq-eqb number b (sym same)) ∙ apart.1))) ∙ all.others b apart.0
+
 -- nothing is staged yet
 pub stage_start : (c : Change) (row : Row) (blocks : List ℕ) (s : State) (old : List Use) (es : List (ℕ × ℕ)) → ((b k : ℕ) → cluster_at es b ≡ Some k → k < length old) → StagesAll c row blocks [] s s old old es es
 stage_start c row blocks s old es inside = record {
@@ -104,6 +114,7 @@ stage_start c row blocks s old es inside = record {
   leaves = untouched s old;
   ran = ran_none s;
   inside = inside;
+  others = λ b out. refl;
   each = λ rest was i pin n means rising start. start;
 }
   where

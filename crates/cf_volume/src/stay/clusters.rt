@@ -47,7 +47,7 @@ pub(crate) fn settle_blocks<D: Disk>(
     ensures cause { IfErr result (λ e. IsStop e (D.state disk.old) (D.state disk.new)) }
 {
     stage_all(disk, held, row, extents, blocks, change)?;
-    drop_gone(alloc, held, here, extents)?;
+    drop_gone(alloc, held, here, extents, blocks, change)?;
     Ok(())
 }
 

@@ -3,13 +3,14 @@
 ghost use Rattle.std.specs.Prelude.{◌≡◌, ◌*◌, ◌^◌, ◌<◌, ℕ, Some, not, filter, length, map, take, IfOk, OnOk, MatchOption};
 ghost use Rattle.std.specs.Option.{ForSome};
 ghost use Rattle.cf_clusters.specs.Roles.{dropped_at};
-ghost use Rattle.cf_volume_points.specs.Staging.{Drops, DropsGone, DropsOne};
+ghost use Rattle.cf_volume_points.specs.Staging.{Drops, DropsOne};
 ghost use Rattle.cf_ranges.specs.Pairs.{IsRising, cluster_at};
 ghost use Rattle.cf_ranges.specs.Positions.{IsRuns, touches};
 ghost use Rattle.cf_volume.specs.Ahead.{EndsPast, IsAhead};
+ghost use Rattle.cf_volume.specs.Laid.{may_be_gone, takes_bytes};
 
 use cf_base::limits::BLOCK_BYTES;
-use cf_base::{OutOfMemory, Span};
+use cf_base::{Change, OutOfMemory, Span};
 use cf_clusters::Data;
 use cf_ranges::{ExtentMap, RangeSet, reaches};
 use std::alloc::Global;
@@ -62,6 +63,48 @@ fn gone_blocks(
     Ok(gone)
 }
 
+// Those of the blocks that have no place of the set.
+fn untouched(alloc: Global, here: &RangeSet, blocks: &[u32]) -> Result<Vec<u32>, OutOfMemory>
+    ensures { IfOk result (λ v. v.items ≡ filter (λ b. not (touches here.now b)) blocks.now) }
+{
+    let mut gone = Vec::new(alloc);
+    for block in blocks {
+        if !here.touches(*block as u64) {
+            gone.push(*block)?;
+        }
+    }
+    Ok(gone)
+}
+
+// Whether bytes may leave a file by the change.
+fn takes_bytes(change: &Change) -> bool
+    ensures { result ≡ takes_bytes change.now }
+{
+    matches!(
+        change,
+        Change::Size { .. } | Change::Emptied { .. } | Change::Take { .. }
+    )
+}
+
+// The blocks that have no place of the set: of all with an extent where bytes may leave, and else of those into which the
+// change put bytes. Each of the others with an extent held a byte before, which is still here.
+fn gone_after(
+    alloc: Global,
+    here: &RangeSet,
+    pairs: &[(u32, u32)],
+    blocks: &[u32],
+    change: &Change,
+) -> Result<Vec<u32>, OutOfMemory>
+    requires { IsRising pairs.now }
+    ensures { IfOk result (λ v. v.items ≡ filter (λ b. not (touches here.now b)) (may_be_gone change.now blocks.now pairs.now)) }
+{
+    if takes_bytes(change) {
+        gone_blocks(alloc, here, pairs)
+    } else {
+        untouched(alloc, here, blocks)
+    }
+}
+
 fn drop_cluster(held: &mut Data, cluster: Option<u32>)
     requires { ForSome cluster (λ k. k < length held.old) }
     ensures { MatchOption cluster (held.new ≡ held.old) (λ k. held.new ≡ dropped_at k held.old) }
@@ -93,17 +136,19 @@ fn drop_blocks(held: &mut Data, extents: &mut ExtentMap, blocks: &[u32])
     }
 }
 
-/// Drops the extents whose block has no place of the set.
+/// Drops the extents whose block has no place of the set after a change, which put bytes into these blocks.
 pub(crate) fn drop_gone(
     alloc: Global,
     held: &mut Data,
     here: &RangeSet,
     extents: &mut ExtentMap,
+    blocks: &[u32],
+    change: &Change,
 ) -> Result<(), OutOfMemory>
     requires { (b k : ℕ) → cluster_at extents.old b ≡ Some k → k < length held.old }
-    ensures { OnOk result (DropsGone here.now held.old held.new extents.old extents.new) }
+    ensures { OnOk result (Drops (filter (λ b. not (touches here.now b)) (may_be_gone change.now blocks.now extents.old)) held.old held.new extents.old extents.new) }
 {
-    let gone = gone_blocks(alloc, here, extents.pairs())?;
+    let gone = gone_after(alloc, here, extents.pairs(), blocks, change)?;
     drop_blocks(held, extents, &gone);
     Ok(())
 }
