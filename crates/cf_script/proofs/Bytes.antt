@@ -1,5 +1,5 @@
 -- Bytes written one after another.
-use Rattle.std.proofs.Common.{◌≡◌, ℕ, zero, suc, ◌+◌, ◌-◌, ◌<◌, ◌≤◌, List, [], ◌∷◌, ◌++◌, length, take, drop, get_or, refl, sym, ap, ◌∙◌, arith, append_assoc}
+use Rattle.std.proofs.Common.{◌≡◌, ℕ, zero, suc, ◌+◌, ◌-◌, ◌<◌, ◌≤◌, List, [], ◌∷◌, ◌++◌, length, take, drop, get_or, Bor, refl, sym, ap, ◌∙◌, arith, append_assoc}
 use Rattle.std.specs.List.{flat_map}
 use Rattle.std.proofs.Math.Seq.{take-length}
 use Rattle.std.proofs.lemmas.List.{append-nil}
@@ -7,8 +7,8 @@ use Rattle.cf_base.specs.declared.operations.NewItem.{NewItem}
 use Rattle.cf_base.specs.declared.events.Event.{Event}
 use Rattle.cf_script.specs.declared.printed_lines.Field.{Field}
 use Rattle.cf_script.specs.Words.{written}
+use Rattle.cf_script.specs.Lines.{field_words, lent_words}
 use Rattle.cf_script.specs.Printed.{spaced, line_of, entry_text, entry_words, event_words, printed}
-use Rattle.cf_script.specs.Lines.{field_words, words_of}
 
 pub ruleset joins = (append_assoc, append-nil)
 
@@ -39,12 +39,12 @@ pub spaced_append : (ws vs : List (List ℕ)) → spaced (ws ++ vs) ≡ spaced w
 spaced_append [] vs = refl
 spaced_append (w ∷ ws) vs = ap (λ t. 32 ∷ w ++ t) (spaced_append ws vs) ∙ sym (append_assoc (32 ∷ w) (spaced ws) (spaced vs))
 
-abbrev pub field_text : Field → List ℕ
-field_text field = spaced (field_words field)
+abbrev pub field_text : Bor Field → List ℕ
+field_text field = spaced (field_words field.now)
 
-pub fields_flat : (fields : List Field) → flat_map field_text fields ≡ spaced (words_of fields)
+pub fields_flat : (fields : List (Bor Field)) → flat_map field_text fields ≡ spaced (lent_words fields)
 fields_flat [] = refl
-fields_flat (field ∷ fields) = ap (λ t. field_text field ++ t) (fields_flat fields) ∙ sym (spaced_append (field_words field) (words_of fields))
+fields_flat (field ∷ fields) = ap (λ t. field_text field ++ t) (fields_flat fields) ∙ sym (spaced_append (field_words field.now) (lent_words fields))
 
 first_item : {A : Type 0} (xs : List A) (x : A) → 1 ≤ length xs → x ≡ get_or xs 0 x → xs ≡ x ∷ take (length xs - 1) (drop 1 xs)
 first_item [] x low e = absurd (omega arith)

@@ -11,7 +11,6 @@ pub mod LinesRead
 pub mod KeyOnce
 pub mod EventOnce
 pub mod FixedWords
-pub mod Flags
 pub mod OneReading
 pub mod Bytes
 pub mod WordTexts

@@ -78,10 +78,11 @@ pub fn get(
     let Some(len) = number(len) else {
         return Ok(None);
     };
-    let Some(path) = path(alloc, target)? else {
-        return Ok(None);
-    };
-    Ok(Some(Event::Call(Call::Get { path, offset, len })))
+    match path(alloc, target) {
+        Ok(Some(path)) => Ok(Some(Event::Call(Call::Get { path, offset, len }))),
+        Ok(None) => Ok(None),
+        Err(e) => Err(e),
+    }
 }
 
 /// `write H OFF DATA`.
@@ -99,14 +100,15 @@ pub fn write(
     let Some(offset) = number(offset) else {
         return Ok(None);
     };
-    let Some(bytes) = data(alloc, bytes)? else {
-        return Ok(None);
-    };
-    Ok(Some(Event::Call(Call::Write {
-        handle: Handle(key),
-        offset,
-        bytes,
-    })))
+    match data(alloc, bytes) {
+        Ok(Some(bytes)) => Ok(Some(Event::Call(Call::Write {
+            handle: Handle(key),
+            offset,
+            bytes,
+        }))),
+        Ok(None) => Ok(None),
+        Err(e) => Err(e),
+    }
 }
 
 /// `size H NUM`.
@@ -129,13 +131,16 @@ pub fn size(handle: &str, size: &str) -> Option<Event>
 pub fn rename(alloc: Global, source: &str, target: &str) -> Result<Option<Event>, OutOfMemory>
     ensures { IfOk result (Reads (IsRename source.now target.now)) }
 {
-    let Some(from) = path(alloc, source)? else {
-        return Ok(None);
+    let from = match path(alloc, source) {
+        Ok(Some(from)) => from,
+        Ok(None) => return Ok(None),
+        Err(e) => return Err(e),
     };
-    let Some(to) = path(alloc, target)? else {
-        return Ok(None);
-    };
-    Ok(Some(Event::Call(Call::Rename { from, to })))
+    match path(alloc, target) {
+        Ok(Some(to)) => Ok(Some(Event::Call(Call::Rename { from, to }))),
+        Ok(None) => Ok(None),
+        Err(e) => Err(e),
+    }
 }
 
 /// `pin P STATE`, with a reach after it or none.
@@ -153,10 +158,11 @@ pub fn pin_line(
     let Some(reach) = reach(below) else {
         return Ok(None);
     };
-    let Some(path) = path(alloc, target)? else {
-        return Ok(None);
-    };
-    Ok(Some(Event::Call(Call::Pin { path, pin, reach })))
+    match path(alloc, target) {
+        Ok(Some(path)) => Ok(Some(Event::Call(Call::Pin { path, pin, reach }))),
+        Ok(None) => Ok(None),
+        Err(e) => Err(e),
+    }
 }
 
 /// `ranges P CLASS`.
@@ -166,10 +172,11 @@ pub fn ranges(alloc: Global, target: &str, word: &str) -> Result<Option<Event>, 
     let Some(class) = class(word) else {
         return Ok(None);
     };
-    let Some(path) = path(alloc, target)? else {
-        return Ok(None);
-    };
-    Ok(Some(Event::Call(Call::Ranges { path, class })))
+    match path(alloc, target) {
+        Ok(Some(path)) => Ok(Some(Event::Call(Call::Ranges { path, class }))),
+        Ok(None) => Ok(None),
+        Err(e) => Err(e),
+    }
 }
 
 /// `keep P yes` or `keep P no`.
@@ -179,19 +186,21 @@ pub fn keep(alloc: Global, target: &str, word: &str) -> Result<Option<Event>, Ou
     let Some(on) = yes(word) else {
         return Ok(None);
     };
-    let Some(path) = path(alloc, target)? else {
-        return Ok(None);
-    };
-    Ok(Some(Event::Call(Call::Keep { path, on })))
+    match path(alloc, target) {
+        Ok(Some(path)) => Ok(Some(Event::Call(Call::Keep { path, on }))),
+        Ok(None) => Ok(None),
+        Err(e) => Err(e),
+    }
 }
 
 fn dehydrate_all(alloc: Global, target: &str) -> Result<Option<Event>, OutOfMemory>
     ensures { IfOk result (Reads (IsDehydrate (target.now ∷ []))) }
 {
-    let Some(path) = path(alloc, target)? else {
-        return Ok(None);
-    };
-    Ok(Some(Event::Call(Call::Dehydrate { path, range: None })))
+    match path(alloc, target) {
+        Ok(Some(path)) => Ok(Some(Event::Call(Call::Dehydrate { path, range: None }))),
+        Ok(None) => Ok(None),
+        Err(e) => Err(e),
+    }
 }
 
 fn dehydrate_range(
@@ -208,8 +217,10 @@ fn dehydrate_range(
     let Some(len) = number(len) else {
         return Ok(None);
     };
-    let Some(path) = path(alloc, target)? else {
-        return Ok(None);
+    let path = match path(alloc, target) {
+        Ok(Some(path)) => path,
+        Ok(None) => return Ok(None),
+        Err(e) => return Err(e),
     };
     let range = Some((offset, len));
     Ok(Some(Event::Call(Call::Dehydrate { path, range })))

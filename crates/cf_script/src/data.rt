@@ -54,10 +54,11 @@ fn plain(alloc: Global, word: &str) -> Result<Option<Blob>, OutOfMemory>
 pub fn identity(alloc: Global, word: &str) -> Result<Option<Identity>, OutOfMemory>
     ensures { IfOk result (Reads (IsPlain word.now)) }
 {
-    let Some(bytes) = plain(alloc, word)? else {
-        return Ok(None);
-    };
-    Ok(Some(Identity::new(alloc, bytes.as_slice())?))
+    match plain(alloc, word) {
+        Ok(Some(bytes)) => Ok(Some(Identity::new(alloc, bytes.as_slice())?)),
+        Ok(None) => Ok(None),
+        Err(e) => Err(e),
+    }
 }
 
 fn one_byte(alloc: Global, word: &str) -> Result<Option<u8>, OutOfMemory>

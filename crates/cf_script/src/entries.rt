@@ -63,19 +63,20 @@ fn file_rest(alloc: Global, name: Blob, words: &[&str]) -> Result<Option<NewItem
     let Some(size) = number(size) else {
         return Ok(None);
     };
-    let Some(identity) = identity(alloc, identity_word)? else {
-        return Ok(None);
-    };
     let Some(mark) = in_sync(flag) else {
         return Ok(None);
     };
-    Ok(Some(NewItem {
-        name,
-        dir: false,
-        size: size as u64,
-        identity,
-        mark,
-    }))
+    match identity(alloc, identity_word) {
+        Ok(Some(identity)) => Ok(Some(NewItem {
+            name,
+            dir: false,
+            size: size as u64,
+            identity,
+            mark,
+        })),
+        Ok(None) => Ok(None),
+        Err(e) => Err(e),
+    }
 }
 
 fn dir_rest(alloc: Global, name: Blob, words: &[&str]) -> Result<Option<NewItem>, OutOfMemory>
@@ -84,19 +85,20 @@ fn dir_rest(alloc: Global, name: Blob, words: &[&str]) -> Result<Option<NewItem>
     let [identity_word, flag @ ..] = words else {
         return Ok(None);
     };
-    let Some(identity) = identity(alloc, identity_word)? else {
-        return Ok(None);
-    };
     let Some(mark) = in_sync(flag) else {
         return Ok(None);
     };
-    Ok(Some(NewItem {
-        name,
-        dir: true,
-        size: 0,
-        identity,
-        mark,
-    }))
+    match identity(alloc, identity_word) {
+        Ok(Some(identity)) => Ok(Some(NewItem {
+            name,
+            dir: true,
+            size: 0,
+            identity,
+            mark,
+        })),
+        Ok(None) => Ok(None),
+        Err(e) => Err(e),
+    }
 }
 
 fn entry_rest(

@@ -1,14 +1,14 @@
 //! The lines of the device, of another device, of the engine and of a scripted provider, as they are written.
 
-ghost use Rattle.std.specs.Prelude.{◌≡◌, ℕ, List, [], ◌∷◌, codes, Option};
+ghost use Rattle.std.specs.Prelude.{◌≡◌, ℕ, List, [], ◌∷◌, ◌++◌, codes, Option};
 ghost use Rattle.std.specs.Fmt.{decimal};
 ghost use Rattle.cf_script.specs.Words.{escaped, plain_text};
 ghost use Rattle.cf_script.specs.Printed.{choice_words, device_words, peer_words, engine_words, provider_words, event_words, in_sync_words, size_words};
-ghost use Rattle.cf_script.specs.Lines.{line_words};
+ghost use Rattle.cf_script.specs.Lines.{line_words, value_words};
 
-use crate::call_lines::call_line;
+use crate::call_lines::{call_line, number_line};
 use crate::operation_lines::operation_line;
-use crate::printed_lines::{Field, Line};
+use crate::printed_lines::{Field, Line, Value};
 use crate::texts::link_text;
 use cf_base::{Choice, DeviceEvent, EngineEvent, Event, Identity, PeerEvent, ProviderEvent, Text};
 
@@ -18,7 +18,11 @@ fn crash_line<'a>(choice: Choice) -> Line<'a>
     match choice {
         Choice::Keep => Line::One("crash", Field::Word("keep")),
         Choice::Drop => Line::One("crash", Field::Word("drop")),
-        Choice::Mix(seed) => Line::Two("crash", Field::Word("mix"), Field::Number(seed)),
+        Choice::Mix(seed) => Line::Two(
+            "crash",
+            Field::Word("mix"),
+            Field::Value(Value::Number(seed)),
+        ),
     }
 }
 
@@ -26,7 +30,7 @@ fn device_line<'a>(event: DeviceEvent) -> Line<'a>
     ensures { line_words result ≡ device_words event }
 {
     match event {
-        DeviceEvent::Stop { calls } => Line::One("stop", Field::Number(calls as u64)),
+        DeviceEvent::Stop { calls } => number_line("stop", calls),
         DeviceEvent::Crash { choice } => crash_line(choice),
         DeviceEvent::Restart => Line::Bare("restart"),
     }
@@ -36,27 +40,24 @@ fn peer_line<'a>(event: &'a PeerEvent) -> Line<'a>
     ensures { line_words result ≡ codes "peer" ∷ peer_words event.now }
 {
     match event {
-        PeerEvent::Put { path, bytes } => Line::Three(
-            "peer",
-            Field::Word("put"),
-            Field::Path(path),
-            Field::Bytes(bytes.as_slice()),
-        ),
+        PeerEvent::Put { path, bytes } => {
+            let bytes = Field::Bytes(bytes.as_slice());
+            Line::Three("peer", Field::Word("put"), Field::Path(path), bytes)
+        }
         PeerEvent::MakeDir { path } => {
             Line::Two("peer", Field::Word("mkdir"), Field::Path(path))
         }
-        PeerEvent::Move { from, to } => Line::Three(
-            "peer",
-            Field::Word("move"),
-            Field::Path(from),
-            Field::Path(to),
-        ),
+        PeerEvent::Move { from, to } => {
+            let from = Field::Path(from);
+            Line::Three("peer", Field::Word("move"), from, Field::Path(to))
+        }
         PeerEvent::Remove { path } => {
             Line::Two("peer", Field::Word("remove"), Field::Path(path))
         }
         PeerEvent::Stat { path } => Line::Two("peer", Field::Word("stat"), Field::Path(path)),
         PeerEvent::Keep { count } => {
-            Line::Two("peer", Field::Word("keep"), Field::Number(*count as u64))
+            let count = Field::Value(Value::Number(*count as u64));
+            Line::Two("peer", Field::Word("keep"), count)
         }
     }
 }
@@ -66,48 +67,46 @@ fn engine_line<'a>(event: EngineEvent) -> Line<'a>
 {
     match event {
         EngineEvent::Link { inline } => Line::One("link", Field::Word(link_text(inline))),
-        EngineEvent::Arrive { message } => Line::One("arrive", Field::Number(message as u64)),
-        EngineEvent::Deliver { message } => Line::One("deliver", Field::Number(message as u64)),
+        EngineEvent::Arrive { message } => number_line("arrive", message),
+        EngineEvent::Deliver { message } => number_line("deliver", message),
         EngineEvent::Work => Line::Bare("work"),
         EngineEvent::Sync => Line::Bare("sync"),
-        EngineEvent::Space { blocks } => Line::One("space", Field::Number(blocks as u64)),
+        EngineEvent::Space { blocks } => number_line("space", blocks),
     }
 }
 
 fn place_line<'a>(path: &'a Text, size: u32, identity: &'a Identity, in_sync: bool) -> Line<'a>
     ensures { line_words result ≡ codes "place" ∷ escaped path.now ∷ decimal size ∷ plain_text identity.now ∷ in_sync_words in_sync }
 {
-    let path = Field::Path(path);
-    let size = Field::Number(size as u64);
+    let size = Field::Value(Value::Number(size as u64));
     let identity = Field::Bytes(identity.as_slice());
-    if in_sync {
-        return Line::Four("place", path, size, identity, Field::Word("insync"));
-    }
-    Line::Three("place", path, size, identity)
+    let in_sync = Field::Value(Value::InSync(in_sync));
+    Line::Four("place", Field::Path(path), size, identity, in_sync)
 }
 
-fn place_dir_line<'a>(path: &'a Text, identity: &'a Identity, in_sync: bool) -> Line<'a>
-    ensures { line_words result ≡ codes "placedir" ∷ escaped path.now ∷ plain_text identity.now ∷ in_sync_words in_sync }
+fn size_value(size: Option<u32>) -> Value
+    ensures { value_words result ≡ size_words size }
 {
-    let path = Field::Path(path);
-    let identity = Field::Bytes(identity.as_slice());
-    if in_sync {
-        return Line::Three("placedir", path, identity, Field::Word("insync"));
-    }
-    Line::Two("placedir", path, identity)
-}
-
-fn update_line<'a>(path: &'a Text, identity: &'a Identity, size: Option<u32>) -> Line<'a>
-    ensures { line_words result ≡ codes "update" ∷ escaped path.now ∷ plain_text identity.now ∷ size_words size }
-{
-    let path = Field::Path(path);
-    let identity = Field::Bytes(identity.as_slice());
     match size {
-        Some(size) => Line::Three("update", path, identity, Field::Number(size as u64)),
-        None => Line::Two("update", path, identity),
+        None => Value::Nothing,
+        Some(size) => Value::Number(size as u64),
     }
 }
 
+fn identity_line<'a>(
+    word: &'static str,
+    path: &'a Text,
+    identity: &'a Identity,
+    value: Value,
+) -> Line<'a>
+    ensures { line_words result ≡ word.now ∷ escaped path.now ∷ plain_text identity.now ∷ value_words value ++ [] }
+{
+    let path = Field::Path(path);
+    let identity = Field::Bytes(identity.as_slice());
+    Line::Three(word, path, identity, Field::Value(value))
+}
+
+#[tactic(auto, using(crate::proofs::Bytes::joins))]
 fn provider_line<'a>(event: &'a ProviderEvent) -> Line<'a>
     ensures { line_words result ≡ provider_words event.now }
 {
@@ -122,20 +121,20 @@ fn provider_line<'a>(event: &'a ProviderEvent) -> Line<'a>
             path,
             identity,
             in_sync,
-        } => place_dir_line(path, identity, *in_sync),
-        ProviderEvent::Convert { path, identity } => Line::Two(
-            "convert",
-            Field::Path(path),
-            Field::Bytes(identity.as_slice()),
-        ),
+        } => identity_line("placedir", path, identity, Value::InSync(*in_sync)),
+        ProviderEvent::Convert { path, identity } => {
+            let identity = Field::Bytes(identity.as_slice());
+            Line::Two("convert", Field::Path(path), identity)
+        }
         ProviderEvent::Revert { path } => Line::One("revert", Field::Path(path)),
         ProviderEvent::Update {
             path,
             identity,
             size,
-        } => update_line(path, identity, *size),
+        } => identity_line("update", path, identity, size_value(*size)),
         ProviderEvent::Mark { path, number } => {
-            Line::Two("mark", Field::Path(path), Field::Usn(*number))
+            let number = Field::Value(Value::Usn(*number));
+            Line::Two("mark", Field::Path(path), number)
         }
         ProviderEvent::Unmark { path } => Line::One("unmark", Field::Path(path)),
         ProviderEvent::Do { operation } => operation_line("do", false, operation),

@@ -96,8 +96,10 @@ fn words_of(alloc: Global, line: &str) -> Result<Vec<&str>, AllocError>
 fn event_of_text(alloc: Global, mode: Mode, line: &str) -> Result<Option<Event>, OutOfMemory>
     ensures { IfOk result (Reads (AreWords mode (words_of line.now))) }
 {
-    let words = words_of(alloc, line)?;
-    event_of(alloc, mode, words.as_slice())
+    match words_of(alloc, line) {
+        Ok(words) => event_of(alloc, mode, words.as_slice()),
+        Err(_) => Err(OutOfMemory),
+    }
 }
 
 /// Whether there are no control bytes.

@@ -4,7 +4,7 @@ ghost use Rattle.std.specs.Prelude.{◌≡◌, ◌∷◌};
 ghost use Rattle.cf_script.specs.Printed.{key_of, operation_words, plan_key_text};
 ghost use Rattle.cf_script.specs.Lines.{line_words};
 
-use crate::printed_lines::{Field, Line};
+use crate::printed_lines::{Field, Line, Value};
 use crate::texts::good_text;
 use cf_base::{Key, Operation};
 
@@ -27,51 +27,36 @@ fn key_of(operation: &Operation) -> Key
 pub fn operation_line<'a>(word: &'static str, own: bool, operation: &'a Operation) -> Line<'a>
     ensures { line_words result ≡ word.now ∷ operation_words (plan_key_text own (key_of operation.now)) operation.now }
 {
-    let ask = Field::Ask(own, key_of(operation));
+    let ask = Field::Value(Value::Ask(own, key_of(operation)));
     match operation {
-        Operation::Transfer { at, bytes, .. } => Line::Four(
-            word,
-            Field::Word("transfer"),
-            ask,
-            Field::Number(*at),
-            Field::Bytes(bytes.as_slice()),
-        ),
-        Operation::Refuse { span, status, .. } => Line::Five(
-            word,
-            Field::Word("fail"),
-            ask,
-            Field::Number(span.start),
-            Field::Number(span.len),
-            Field::Number(*status as u64),
-        ),
-        Operation::Retrieve { span, .. } => Line::Four(
-            word,
-            Field::Word("retrieve"),
-            ask,
-            Field::Number(span.start),
-            Field::Number(span.len),
-        ),
-        Operation::Ack { span, good, .. } => Line::Five(
-            word,
-            Field::Word("ack"),
-            ask,
-            Field::Number(span.start),
-            Field::Number(span.len),
-            Field::Word(good_text(*good)),
-        ),
+        Operation::Transfer { at, bytes, .. } => {
+            let at = Field::Value(Value::Number(*at));
+            let bytes = Field::Bytes(bytes.as_slice());
+            Line::Four(word, Field::Word("transfer"), ask, at, bytes)
+        }
+        Operation::Refuse { span, status, .. } => {
+            let span = Field::Value(Value::Span(*span));
+            let status = Field::Value(Value::Number(*status as u64));
+            Line::Four(word, Field::Word("fail"), ask, span, status)
+        }
+        Operation::Retrieve { span, .. } => {
+            let span = Field::Value(Value::Span(*span));
+            Line::Three(word, Field::Word("retrieve"), ask, span)
+        }
+        Operation::Ack { span, good, .. } => {
+            let span = Field::Value(Value::Span(*span));
+            let good = Field::Word(good_text(*good));
+            Line::Four(word, Field::Word("ack"), ask, span, good)
+        }
         Operation::Restart { .. } => Line::Two(word, Field::Word("rehydrate"), ask),
-        Operation::Entries { list, good, .. } => Line::Four(
-            word,
-            Field::Word("entries"),
-            ask,
-            Field::Word(good_text(*good)),
-            Field::Entries(list.as_slice()),
-        ),
-        Operation::AckDehydrate { good, .. } => Line::Three(
-            word,
-            Field::Word("ackdehydrate"),
-            ask,
-            Field::Word(good_text(*good)),
-        ),
+        Operation::Entries { list, good, .. } => {
+            let good = Field::Word(good_text(*good));
+            let list = Field::Entries(list.as_slice());
+            Line::Four(word, Field::Word("entries"), ask, good, list)
+        }
+        Operation::AckDehydrate { good, .. } => {
+            let good = Field::Word(good_text(*good));
+            Line::Three(word, Field::Word("ackdehydrate"), ask, good)
+        }
     }
 }

@@ -24,14 +24,15 @@ fn transfer(
     let Some(at) = number(offset) else {
         return Ok(None);
     };
-    let Some(bytes) = data(alloc, bytes)? else {
-        return Ok(None);
-    };
-    Ok(Some(Operation::Transfer {
-        key,
-        at: at as u64,
-        bytes,
-    }))
+    match data(alloc, bytes) {
+        Ok(Some(bytes)) => Ok(Some(Operation::Transfer {
+            key,
+            at: at as u64,
+            bytes,
+        })),
+        Ok(None) => Ok(None),
+        Err(e) => Err(e),
+    }
 }
 
 fn span_of(start: u32, len: u32) -> Span
@@ -111,10 +112,11 @@ fn good_entries(
     if !good && !rest.is_empty() {
         return Ok(None);
     }
-    let Some(list) = entries(alloc, rest)? else {
-        return Ok(None);
-    };
-    Ok(Some(Operation::Entries { key, list, good }))
+    match entries(alloc, rest) {
+        Ok(Some(list)) => Ok(Some(Operation::Entries { key, list, good })),
+        Ok(None) => Ok(None),
+        Err(e) => Err(e),
+    }
 }
 
 fn list_entries(alloc: Global, key: Key, words: &[&str]) -> Result<Option<Operation>, OutOfMemory>
@@ -207,10 +209,11 @@ fn done(
 ) -> Result<Option<Event>, OutOfMemory>
     ensures { IfOk result (Reads (IsDone command key (map (λ w. w.now) words.now))) }
 {
-    let Some(operation) = operation(alloc, command, key, words)? else {
-        return Ok(None);
-    };
-    Ok(Some(Event::Provider(ProviderEvent::Do { operation })))
+    match operation(alloc, command, key, words) {
+        Ok(Some(operation)) => Ok(Some(Event::Provider(ProviderEvent::Do { operation }))),
+        Ok(None) => Ok(None),
+        Err(e) => Err(e),
+    }
 }
 
 /// What follows the word `do`.
@@ -257,10 +260,11 @@ fn planned(
     ensures { IfOk result (Reads (IsPlanned command key (map (λ w. w.now) words.now))) }
 {
     let (own, key) = key;
-    let Some(operation) = operation(alloc, command, key, words)? else {
-        return Ok(None);
-    };
-    Ok(Some(Event::Provider(ProviderEvent::Plan { own, operation })))
+    match operation(alloc, command, key, words) {
+        Ok(Some(operation)) => Ok(Some(Event::Provider(ProviderEvent::Plan { own, operation }))),
+        Ok(None) => Ok(None),
+        Err(e) => Err(e),
+    }
 }
 
 /// What follows the word `plan`.

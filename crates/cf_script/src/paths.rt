@@ -46,8 +46,10 @@ fn has_slash(path: &[u8]) -> bool
 pub fn path(alloc: Global, word: &str) -> Result<Option<Text>, OutOfMemory>
     ensures { IfOk result (Reads (IsPath word.now)) }
 {
-    let Some(path) = unescaped(alloc, word.as_bytes())? else {
-        return Ok(None);
+    let path = match unescaped(alloc, word.as_bytes()) {
+        Ok(Some(path)) => path,
+        Ok(None) => return Ok(None),
+        Err(e) => return Err(e),
     };
     if !has_slash(path.as_slice()) {
         return Ok(None);

@@ -15,52 +15,61 @@ use std::alloc::Global;
 fn put(alloc: Global, target: &str, bytes: &str) -> Result<Option<Event>, OutOfMemory>
     ensures { IfOk result (Reads (IsPeerPair PeerCommand.Put target.now bytes.now)) }
 {
-    let Some(path) = path(alloc, target)? else {
-        return Ok(None);
+    let path = match path(alloc, target) {
+        Ok(Some(path)) => path,
+        Ok(None) => return Ok(None),
+        Err(e) => return Err(e),
     };
-    let Some(bytes) = data(alloc, bytes)? else {
-        return Ok(None);
-    };
-    Ok(Some(Event::Peer(PeerEvent::Put { path, bytes })))
+    match data(alloc, bytes) {
+        Ok(Some(bytes)) => Ok(Some(Event::Peer(PeerEvent::Put { path, bytes }))),
+        Ok(None) => Ok(None),
+        Err(e) => Err(e),
+    }
 }
 
 fn move_item(alloc: Global, source: &str, target: &str) -> Result<Option<Event>, OutOfMemory>
     ensures { IfOk result (Reads (IsPeerPair PeerCommand.Move source.now target.now)) }
 {
-    let Some(from) = path(alloc, source)? else {
-        return Ok(None);
+    let from = match path(alloc, source) {
+        Ok(Some(from)) => from,
+        Ok(None) => return Ok(None),
+        Err(e) => return Err(e),
     };
-    let Some(to) = path(alloc, target)? else {
-        return Ok(None);
-    };
-    Ok(Some(Event::Peer(PeerEvent::Move { from, to })))
+    match path(alloc, target) {
+        Ok(Some(to)) => Ok(Some(Event::Peer(PeerEvent::Move { from, to }))),
+        Ok(None) => Ok(None),
+        Err(e) => Err(e),
+    }
 }
 
 fn mkdir(alloc: Global, target: &str) -> Result<Option<Event>, OutOfMemory>
     ensures { IfOk result (Reads (IsPeerWord PeerCommand.Mkdir target.now)) }
 {
-    let Some(path) = path(alloc, target)? else {
-        return Ok(None);
-    };
-    Ok(Some(Event::Peer(PeerEvent::MakeDir { path })))
+    match path(alloc, target) {
+        Ok(Some(path)) => Ok(Some(Event::Peer(PeerEvent::MakeDir { path }))),
+        Ok(None) => Ok(None),
+        Err(e) => Err(e),
+    }
 }
 
 fn remove(alloc: Global, target: &str) -> Result<Option<Event>, OutOfMemory>
     ensures { IfOk result (Reads (IsPeerWord PeerCommand.Remove target.now)) }
 {
-    let Some(path) = path(alloc, target)? else {
-        return Ok(None);
-    };
-    Ok(Some(Event::Peer(PeerEvent::Remove { path })))
+    match path(alloc, target) {
+        Ok(Some(path)) => Ok(Some(Event::Peer(PeerEvent::Remove { path }))),
+        Ok(None) => Ok(None),
+        Err(e) => Err(e),
+    }
 }
 
 fn stat(alloc: Global, target: &str) -> Result<Option<Event>, OutOfMemory>
     ensures { IfOk result (Reads (IsPeerWord PeerCommand.Stat target.now)) }
 {
-    let Some(path) = path(alloc, target)? else {
-        return Ok(None);
-    };
-    Ok(Some(Event::Peer(PeerEvent::Stat { path })))
+    match path(alloc, target) {
+        Ok(Some(path)) => Ok(Some(Event::Peer(PeerEvent::Stat { path }))),
+        Ok(None) => Ok(None),
+        Err(e) => Err(e),
+    }
 }
 
 fn keep(word: &str) -> Option<Event>

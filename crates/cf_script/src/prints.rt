@@ -15,7 +15,8 @@ pub fn print(alloc: Global, events: &[Event]) -> Result<Blob, OutOfMemory>
     let mut text = Vec::new(alloc);
     let mut rest = events;
     while let [event, after @ ..] = rest {
-        put_line(&mut text, event_line(event))?;
+        let line = event_line(event);
+        put_line(&mut text, &line)?;
         rest = after;
     }
     Ok(Blob::from_vec(text))

@@ -26,18 +26,21 @@ fn place_item(
     let Some(in_sync) = in_sync(flag) else {
         return Ok(None);
     };
-    let Some(identity) = identity(alloc, identity_word)? else {
-        return Ok(None);
+    let path = match path(alloc, target) {
+        Ok(Some(path)) => path,
+        Ok(None) => return Ok(None),
+        Err(e) => return Err(e),
     };
-    let Some(path) = path(alloc, target)? else {
-        return Ok(None);
-    };
-    Ok(Some(Event::Provider(ProviderEvent::Place {
-        path,
-        size,
-        identity,
-        in_sync,
-    })))
+    match identity(alloc, identity_word) {
+        Ok(Some(identity)) => Ok(Some(Event::Provider(ProviderEvent::Place {
+            path,
+            size,
+            identity,
+            in_sync,
+        }))),
+        Ok(None) => Ok(None),
+        Err(e) => Err(e),
+    }
 }
 
 /// `place P NUM IDENT`, with `insync` after it or not.
@@ -62,46 +65,55 @@ pub fn place_dir(
     let Some(in_sync) = in_sync(flag) else {
         return Ok(None);
     };
-    let Some(identity) = identity(alloc, identity_word)? else {
-        return Ok(None);
+    let path = match path(alloc, target) {
+        Ok(Some(path)) => path,
+        Ok(None) => return Ok(None),
+        Err(e) => return Err(e),
     };
-    let Some(path) = path(alloc, target)? else {
-        return Ok(None);
-    };
-    Ok(Some(Event::Provider(ProviderEvent::PlaceDir {
-        path,
-        identity,
-        in_sync,
-    })))
+    match identity(alloc, identity_word) {
+        Ok(Some(identity)) => Ok(Some(Event::Provider(ProviderEvent::PlaceDir {
+            path,
+            identity,
+            in_sync,
+        }))),
+        Ok(None) => Ok(None),
+        Err(e) => Err(e),
+    }
 }
 
 /// `convert P IDENT`.
 pub fn convert(alloc: Global, target: &str, word: &str) -> Result<Option<Event>, OutOfMemory>
     ensures { IfOk result (Reads (IsConvert target.now word.now)) }
 {
-    let Some(path) = path(alloc, target)? else {
-        return Ok(None);
+    let path = match path(alloc, target) {
+        Ok(Some(path)) => path,
+        Ok(None) => return Ok(None),
+        Err(e) => return Err(e),
     };
-    let Some(identity) = identity(alloc, word)? else {
-        return Ok(None);
-    };
-    Ok(Some(Event::Provider(ProviderEvent::Convert { path, identity })))
+    match identity(alloc, word) {
+        Ok(Some(identity)) => Ok(Some(Event::Provider(ProviderEvent::Convert { path, identity }))),
+        Ok(None) => Ok(None),
+        Err(e) => Err(e),
+    }
 }
 
 fn update_in_place(alloc: Global, target: &str, word: &str) -> Result<Option<Event>, OutOfMemory>
     ensures { IfOk result (Reads (IsUpdate (target.now ∷ word.now ∷ []))) }
 {
-    let Some(path) = path(alloc, target)? else {
-        return Ok(None);
+    let path = match path(alloc, target) {
+        Ok(Some(path)) => path,
+        Ok(None) => return Ok(None),
+        Err(e) => return Err(e),
     };
-    let Some(identity) = identity(alloc, word)? else {
-        return Ok(None);
-    };
-    Ok(Some(Event::Provider(ProviderEvent::Update {
-        path,
-        identity,
-        size: None,
-    })))
+    match identity(alloc, word) {
+        Ok(Some(identity)) => Ok(Some(Event::Provider(ProviderEvent::Update {
+            path,
+            identity,
+            size: None,
+        }))),
+        Ok(None) => Ok(None),
+        Err(e) => Err(e),
+    }
 }
 
 fn update_sized(
@@ -115,17 +127,20 @@ fn update_sized(
     let Some(size) = number(size) else {
         return Ok(None);
     };
-    let Some(path) = path(alloc, target)? else {
-        return Ok(None);
+    let path = match path(alloc, target) {
+        Ok(Some(path)) => path,
+        Ok(None) => return Ok(None),
+        Err(e) => return Err(e),
     };
-    let Some(identity) = identity(alloc, word)? else {
-        return Ok(None);
-    };
-    Ok(Some(Event::Provider(ProviderEvent::Update {
-        path,
-        identity,
-        size: Some(size),
-    })))
+    match identity(alloc, word) {
+        Ok(Some(identity)) => Ok(Some(Event::Provider(ProviderEvent::Update {
+            path,
+            identity,
+            size: Some(size),
+        }))),
+        Ok(None) => Ok(None),
+        Err(e) => Err(e),
+    }
 }
 
 /// `update P IDENT`, or with a size.
@@ -146,8 +161,9 @@ pub fn mark(alloc: Global, target: &str, word: &str) -> Result<Option<Event>, Ou
     let Some(number) = usn(word) else {
         return Ok(None);
     };
-    let Some(path) = path(alloc, target)? else {
-        return Ok(None);
-    };
-    Ok(Some(Event::Provider(ProviderEvent::Mark { path, number })))
+    match path(alloc, target) {
+        Ok(Some(path)) => Ok(Some(Event::Provider(ProviderEvent::Mark { path, number }))),
+        Ok(None) => Ok(None),
+        Err(e) => Err(e),
+    }
 }

@@ -56,8 +56,10 @@ fn read_lines(alloc: Global, text: &[u8], mode: Mode) -> Result<Vec<Event>, Scri
         number += 1;
         rest = after;
         if is_event_line(line) {
-            let Some(event) = event_of_line(alloc, mode, line)? else {
-                return Err(ScriptError::Syntax(number));
+            let event = match event_of_line(alloc, mode, line) {
+                Ok(Some(event)) => event,
+                Ok(None) => return Err(ScriptError::Syntax(number)),
+                Err(_) => return Err(ScriptError::OutOfMemory),
             };
             if events.len() == MOST_EVENTS {
                 drop(event);

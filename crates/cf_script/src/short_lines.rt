@@ -60,10 +60,11 @@ pub fn path_line(
 ) -> Result<Option<Event>, OutOfMemory>
     ensures { IfOk result (Reads (IsPathLine command target.now)) }
 {
-    let Some(path) = path(alloc, target)? else {
-        return Ok(None);
-    };
-    Ok(Some(path_event(command, path)))
+    match path(alloc, target) {
+        Ok(Some(path)) => Ok(Some(path_event(command, path))),
+        Ok(None) => Ok(None),
+        Err(e) => Err(e),
+    }
 }
 
 fn number_event(command: NumberCommand, number: u32) -> Event

@@ -3,7 +3,7 @@
 ghost use Rattle.std.specs.Prelude.{◌≡◌, ◌∷◌, ◌++◌, OnOk};
 ghost use Rattle.std.specs.Fmt.{decimal};
 ghost use Rattle.cf_script.specs.Words.{plain_text, pair_text, escape_byte, escaped};
-ghost use Rattle.cf_script.specs.Names.{pin_name, class_name, hydration_name, population_name, yes_name, good_name, link_name, entry_kind};
+ghost use Rattle.cf_script.specs.Names.{pin_name, class_name, hydration_name, population_name, yes_name, good_name, link_name};
 ghost use Rattle.cf_script.specs.Forms.{escape_name_byte, escaped_name};
 
 use cf_base::{Class, Hydration, OutOfMemory, Pin, Population, Text};
@@ -186,11 +186,4 @@ pub fn link_text(inline: bool) -> &'static str
     ensures { result.now ≡ link_name inline }
 {
     if inline { "inline" } else { "queued" }
-}
-
-/// `dir` or `file`.
-pub fn kind_text(dir: bool) -> &'static str
-    ensures { result.now ≡ entry_kind dir }
-{
-    if dir { "dir" } else { "file" }
 }

@@ -5,5 +5,5 @@ use Rattle.cf_script.specs.Forms.{AreWords}
 use Rattle.cf_script.proofs.WordLists.{texts}
 use Rattle.cf_script.proofs.lines.event_of_text.Goals as goal
 
-pub returns : goal.returns
-returns c = subst (λ ws. IfOk c.event_of.result (Reads (AreWords c.args.mode ws))) (ap texts c.as_slice.ensures.value ∙ c.in_ok-words.ensures) c.event_of.ensures
+pub returns-in-Ok : goal.returns-in-Ok
+returns-in-Ok c = subst (λ ws. IfOk c.event_of.result (Reads (AreWords c.args.mode ws))) (ap texts c.as_slice.ensures.value ∙ c.in-Ok.ensures) c.event_of.ensures
