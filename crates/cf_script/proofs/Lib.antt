@@ -13,6 +13,7 @@ pub mod EventOnce
 pub mod FixedWords
 pub mod OneReading
 pub mod Bytes
+pub mod Loops
 pub mod WordTexts
 pub mod LineTexts
 pub mod SpelledBack

@@ -16,6 +16,19 @@ one_word [] low high = absurd (omega arith)
 one_word (w ∷ []) low high = refl
 one_word (w ∷ v ∷ ws) low high = absurd (omega arith)
 
+pub two_exactly : (ws : List (Bor (List ℕ))) → 2 ≤ length ws → length ws < 3 → texts ws ≡ (get_or ws 0 no_word).now ∷ (get_or ws 1 no_word).now ∷ []
+two_exactly [] low high = absurd (omega arith)
+two_exactly (w ∷ []) low high = absurd (omega arith)
+two_exactly (w ∷ v ∷ []) low high = refl
+two_exactly (w ∷ v ∷ u ∷ ws) low high = absurd (omega arith)
+
+pub three_exactly : (ws : List (Bor (List ℕ))) → 3 ≤ length ws → length ws < 4 → texts ws ≡ (get_or ws 0 no_word).now ∷ (get_or ws 1 no_word).now ∷ (get_or ws 2 no_word).now ∷ []
+three_exactly [] low high = absurd (omega arith)
+three_exactly (w ∷ []) low high = absurd (omega arith)
+three_exactly (w ∷ v ∷ []) low high = absurd (omega arith)
+three_exactly (w ∷ v ∷ u ∷ []) low high = refl
+three_exactly (w ∷ v ∷ u ∷ t ∷ ws) low high = absurd (omega arith)
+
 pub first_word : (ws : List (Bor (List ℕ))) → 1 ≤ length ws → texts ws ≡ (get_or ws 0 no_word).now ∷ texts (after 1 ws)
 first_word [] low = absurd (omega arith)
 first_word (w ∷ ws) low =
