@@ -96,7 +96,8 @@ fn repeated(alloc: Global, byte: &str, count: &str) -> Result<Option<Blob>, OutO
     let Some(count) = times(count) else {
         return Ok(None);
     };
-    let bytes = vec![in alloc; byte; count as usize]?;
+    let mut bytes = Vec::with_capacity(alloc, count as usize)?;
+    bytes.resize(count as usize, byte)?;
     Ok(Some(Blob::from_vec(bytes)))
 }
 
