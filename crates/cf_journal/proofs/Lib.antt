@@ -12,6 +12,7 @@ mod Reading
 mod SlotText
 mod Opening
 mod Choosing
+mod Walking
 pub mod WhatWasRead
 mod Formatted
 mod Unique

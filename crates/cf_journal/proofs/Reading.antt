@@ -4,7 +4,7 @@ use Rattle.std.specs.Int.{w32, to_be_bytes, from_be_bytes}
 use Rattle.std.proofs.lemmas.List.{length-append, append-nil, drop_at}
 use Rattle.std.proofs.lemmas.Nat.{from_be_bytes-to_be_bytes_4}
 use Rattle.cf_journal.specs.Format.{IsFront, IsOverrun, Overruns, Spells, size_of_records}
-use Rattle.cf_journal.proofs.Records.{one_record, front_push, length-front, size-push}
+use Rattle.cf_journal.proofs.Records.{one_record, front_push, size-push}
 
 pub head_is : (a b : ℕ) (x y : List ℕ) → a ∷ x ≡ b ∷ y → (a ≡ b) × (x ≡ y)
 head_is a b x y e = (cc, cc)
@@ -44,12 +44,6 @@ one_length m n x y fm fn e = (
 )
 
 -- what is left behind an open gate is no record that fits
-
-pub lacks_gate : (rest : List ℕ) → 0 < length rest → length rest < 1 → IsOverrun rest
-lacks_gate rest some none = absurd (omega (arith, some, none))
-
-pub lacks_length : (gate : ℕ) (rest more : List ℕ) → rest ≡ gate ∷ more → gate ≢ 0 → length more < 4 → IsOverrun rest
-lacks_length gate rest more is is_open short = (gate, more, is_open, is, λ p next tail fits e. omega (arith, short, ap length e))
 
 pub lacks_bytes : (gate n : ℕ) (rest more bytes : List ℕ) → rest ≡ gate ∷ more → gate ≢ 0 → n < 2 ^ 32 → more ≡ to_be_bytes w32 n ++ bytes → length bytes ≤ n → IsOverrun rest
 lacks_bytes gate n rest more bytes is is_open field parts short = (
@@ -123,6 +117,3 @@ walked_end bytes payloads end old tail w is = (w.front, tail, w.is_front, w.spli
 
 pub walked_over : (bytes : List ℕ) (payloads : List (List ℕ)) (end : ℕ) (old : List ℕ) → Walked bytes payloads end old → IsOverrun old → Overruns payloads bytes
 walked_over bytes payloads end old w over = (w.front, old, w.is_front, w.split, over)
-
-pub walked_fits : (bytes : List ℕ) (payloads : List (List ℕ)) (end : ℕ) (old : List ℕ) (gate : ℕ) (p new : List ℕ) → Walked bytes payloads end old → old ≡ gate ∷ (to_be_bytes w32 (length p) ++ (p ++ new)) → end + (5 + length p) ≤ length bytes
-walked_fits bytes payloads end old gate p new w is = omega (arith, w.size, length-front payloads w.front w.is_front, ap length w.split, length-append w.front old, ap length is, length-append p new)

@@ -1,7 +1,6 @@
 -- What was read is what the disk stands for.
-use Rattle.std.proofs.Common.{◌≡◌, ℕ, zero, suc, ◌+◌, ◌<◌, ◌≤◌, Bool, true, false, List, [], ◌∷◌, length, take, drop, refl, sym, ◌∙◌, ap, subst, arith, Option, Some, None}
+use Rattle.std.proofs.Common.{◌≡◌, ℕ, zero, suc, ◌+◌, ◌<◌, ◌≤◌, true, false, List, [], ◌∷◌, length, take, sym, ◌∙◌, ap, subst, arith, Option, Some, None}
 use Rattle.std.specs.Prelude.{IfSome, IfNone}
-use Rattle.std.proofs.lemmas.List.{length-append, length-take}
 use Rattle.cf_codec.specs.declared.formats.Format.{Format}
 use Rattle.cf_codec.specs.declared.formats.Format.TheVariants.{First, Second}
 use Rattle.cf_disk.specs.Disk.{State, part, Only, size_of}
@@ -16,20 +15,12 @@ use Rattle.cf_journal.specs.Places.{IsFound, IsOpened, journal_of}
 use Rattle.cf_journal.specs.declared.found.Found.{Found}
 use Rattle.cf_journal.specs.declared.journals.Opened.{Opened}
 use Rattle.cf_journal.proofs.Reading.{overruns_none}
-use Rattle.cf_journal.proofs.Records.{length-front}
 
 pub at_some : {X : Type 0} (o : Option X) (x : X) (P : X → Type 0) → o ≡ Some x → IfSome o P → P x
 at_some o x P is h = subst (λ u. IfSome u P) is h
 
 pub at_none : {X : Type 0} (o : Option X) (P : Type 0) → o ≡ None → IfNone o P → P
 at_none o P is h = subst (λ u. IfNone u P) is h
-
--- where the records end
-pub end_low : (n : ℕ) (payloads : List (List ℕ)) (bytes : List ℕ) (end : ℕ) → length bytes ≤ n → Spells payloads bytes → end ≡ size_of_records payloads → end < n
-end_low n payloads bytes end short s is = omega (arith, short, is, length-front payloads s.0 s.2, ap length s.3, length-append s.0 (0 ∷ s.1))
-
-pub read_short : (at n : ℕ) (xs bytes : List ℕ) → bytes ≡ part at n xs → length bytes ≤ n
-read_short at n xs bytes is = omega (arith, ap length is, length-take n (drop at xs))
 
 module _ (xs : List ℕ) (side : Side) (f : Format) (g len b : ℕ) (chosen : Chosen f xs side g len) (b_is : b ≡ base side) (size : 3145728 ≤ length xs) (image : List ℕ) (image_is : image ≡ part (b + 4096) len xs) where
   at_base : image ≡ part (base side + 4096) len xs
@@ -69,13 +60,6 @@ found_none f xs is torn x stands =
     let here : Spells x.payloads (journal_of f xs) =
     subst (λ (s : Side). Spells x.payloads (part (base s + journal_at f.format) (journal_len f.format) xs)) same.0 (subst (λ (e : Format). Spells x.payloads (part (base stands.0 + journal_at e) (journal_len e) xs)) same.1 stands.2.payloads) in
     overruns_none f.payloads (journal_of f xs) (is.torn torn) x.payloads here
-
--- the records end within the journal, whether one does not fit or not
-pub front_low : (n : ℕ) (payloads : List (List ℕ)) (bytes : List ℕ) (end : ℕ) (torn : Bool) → length bytes ≤ n → (torn ≡ false → Spells payloads bytes) → (torn ≡ true → Overruns payloads bytes) → end ≡ size_of_records payloads → end < n
-front_low n payloads bytes end false short whole over is = end_low n payloads bytes end short (whole refl) is
-front_low n payloads bytes end true short whole over is =
-    let s = over refl in
-    omega (arith, short, is, length-front payloads s.0 s.2, ap length s.3, length-append s.0 s.1, ap length s.4.3)
 
 pub read_ready : (old new : State) (side : Side) (g : ℕ) (x : Content) → new.seen ≡ old.seen → Only old.seen new → IsFitSize (size_of old) → StandsAt old.seen side g x → Ready new side g x
 read_ready old new side g x seen only size stands = record {

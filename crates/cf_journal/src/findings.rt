@@ -39,8 +39,7 @@ pub fn read<D: Disk>(alloc: Global, disk: &mut D) -> Result<Found, JournalError>
     let base = base_of(volume.0);
     let image = load(alloc, disk, base + 4096, volume.3 as usize)?;
     let at = journal_at_of(volume.1);
-    let bytes = load(alloc, disk, base + at, journal_len_of(volume.1))?;
-    let front = records(alloc, &bytes)?;
+    let front = records(alloc, disk, base + at, journal_len_of(volume.1))?;
     Ok(Found {
         side: volume.0,
         format: volume.1,

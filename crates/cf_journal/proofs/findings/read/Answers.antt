@@ -1,27 +1,8 @@
-use Rattle.std.proofs.Common.{List, ℕ, ◌+◌, ◌≤◌, ◌∙◌, ap, length, subst}
+use Rattle.std.proofs.Common.{List, ℕ, ◌+◌, ◌<◌, ◌∙◌, ap, subst}
 use Rattle.cf_disk.specs.Disk.{part}
-use Rattle.cf_journal.specs.Format.{Chosen, journal_len}
-use Rattle.cf_journal.proofs.Opening.{reads_then}
-use Rattle.cf_journal.proofs.WhatWasRead.{at_some, found_is, front_low, image_chosen, image_read, journal_read, read_short}
+use Rattle.cf_journal.specs.Format.{Chosen}
+use Rattle.cf_journal.proofs.WhatWasRead.{at_some, found_is, image_chosen, image_read, journal_read}
 use Rattle.cf_journal.proofs.findings.read.Goals as goal
-
-pub returns-in_err-front-clause-reads : goal.returns-in_err-front-clause-reads
-returns-in_err-front-clause-reads g c = reads_then (g.D.Disk.state c.args.disk.now) (g.D.Disk.state c.load.new.disk) (g.D.Disk.state c.load-2.new.disk) (reads_then (g.D.Disk.state c.args.disk.now) (g.D.Disk.state c.find.new.disk) (g.D.Disk.state c.load.new.disk) c.find.ensures.reads c.load.ensures.reads) c.load-2.ensures.reads
-
-pub returns-clause-reads : goal.returns-clause-reads
-returns-clause-reads g c = reads_then (g.D.Disk.state c.args.disk.now) (g.D.Disk.state c.load.new.disk) (g.D.Disk.state c.load-2.new.disk) (reads_then (g.D.Disk.state c.args.disk.now) (g.D.Disk.state c.find.new.disk) (g.D.Disk.state c.load.new.disk) c.find.ensures.reads c.load.ensures.reads) c.load-2.ensures.reads
-
-pub returns-clause-durable : goal.returns-clause-durable
-returns-clause-durable g c = (λ image left. c.in_ok-find.ensures.durable image (c.load.ensures.reads.keeps.crash image (c.load-2.ensures.reads.keeps.crash image left)))
-
-pub invariant_of-result : goal.invariant_of-result
-invariant_of-result g c = record {
-  in_journal = front_low (journal_len c.in-Some.volume.1) c.in_ok-front.front.payloads.items c.deref.result.now c.in_ok-front.front.end c.in_ok-front.front.overruns
-      (subst (λ (n : ℕ). length c.deref.result.now ≤ n) c.journal_len_of.ensures
-      (read_short (c.base_of-base.result + c.journal_at_of-at.result) c.journal_len_of.result (g.D.Disk.state c.args.disk.now).seen c.deref.result.now
-      (c.deref.ensures.value ∙ c.in_ok-bytes.ensures.got ∙ ap (λ (l : List ℕ). part (c.base_of-base.result + c.journal_at_of-at.result) c.journal_len_of.result l) (c.load.ensures.reads.keeps.seen ∙ c.find.ensures.reads.keeps.seen))))
-      c.in_ok-front.ensures.whole c.in_ok-front.ensures.torn c.in_ok-front.ensures.end;
-}
 
 pub returns-clause-found : goal.returns-clause-found
 returns-clause-found g c =
@@ -30,13 +11,9 @@ returns-clause-found g c =
     found_is _ (g.D.Disk.state c.args.disk.now).seen
     (image_chosen (g.D.Disk.state c.args.disk.now).seen c.in-Some.volume.0 c.in-Some.volume.1 c.in-Some.volume.2 c.in-Some.volume.3 c.base_of-base.result chosen c.base_of-base.ensures c.requires.0 c.from_vec.result image)
     (image_read (g.D.Disk.state c.args.disk.now).seen c.in-Some.volume.0 c.in-Some.volume.1 c.in-Some.volume.2 c.in-Some.volume.3 c.base_of-base.result chosen c.base_of-base.ensures c.requires.0 c.from_vec.result image)
-    c.deref.result.now
-    (journal_read (g.D.Disk.state c.args.disk.now).seen c.in-Some.volume.0 c.in-Some.volume.1 c.base_of-base.result c.journal_at_of-at.result c.journal_len_of.result c.deref.result.now
-    (c.deref.ensures.value ∙ c.in_ok-bytes.ensures.got ∙ ap (λ (l : List ℕ). part (c.base_of-base.result + c.journal_at_of-at.result) c.journal_len_of.result l) (c.load.ensures.reads.keeps.seen ∙ c.find.ensures.reads.keeps.seen))
+    (part (c.base_of-base.result + c.journal_at_of-at.result) c.journal_len_of.result (g.D.Disk.state c.load.new.disk).seen)
+    (journal_read (g.D.Disk.state c.args.disk.now).seen c.in-Some.volume.0 c.in-Some.volume.1 c.base_of-base.result c.journal_at_of-at.result c.journal_len_of.result (part (c.base_of-base.result + c.journal_at_of-at.result) c.journal_len_of.result (g.D.Disk.state c.load.new.disk).seen)
+    (ap (λ (l : List ℕ). part (c.base_of-base.result + c.journal_at_of-at.result) c.journal_len_of.result l) (c.load.ensures.reads.keeps.seen ∙ c.find.ensures.reads.keeps.seen))
     c.base_of-base.ensures c.journal_at_of-at.ensures c.journal_len_of.ensures)
     c.in_ok-front.front.payloads.items c.from_vec-2.ensures c.in_ok-front.ensures.whole c.in_ok-front.ensures.torn c.in_ok-front.ensures.end
-    (front_low (journal_len c.in-Some.volume.1) c.in_ok-front.front.payloads.items c.deref.result.now c.in_ok-front.front.end c.in_ok-front.front.overruns
-    (subst (λ (n : ℕ). length c.deref.result.now ≤ n) c.journal_len_of.ensures
-    (read_short (c.base_of-base.result + c.journal_at_of-at.result) c.journal_len_of.result (g.D.Disk.state c.args.disk.now).seen c.deref.result.now
-    (c.deref.ensures.value ∙ c.in_ok-bytes.ensures.got ∙ ap (λ (l : List ℕ). part (c.base_of-base.result + c.journal_at_of-at.result) c.journal_len_of.result l) (c.load.ensures.reads.keeps.seen ∙ c.find.ensures.reads.keeps.seen))))
-    c.in_ok-front.ensures.whole c.in_ok-front.ensures.torn c.in_ok-front.ensures.end)
+    (subst (λ (n : ℕ). c.in_ok-front.front.end < n) c.journal_len_of.ensures c.in_ok-front.ensures.low)

@@ -1,29 +1,13 @@
-use Rattle.std.proofs.Common.{arith}
-use Rattle.cf_journal.proofs.Reading.{walked_none, walked_more, walked_end, walked_fits, walked_over}
+use Rattle.std.proofs.Common.{arith, subst, sym, ap, ◌∙◌, ◌+◌, ◌-◌, ◌++◌, ◌∷◌, [], List, ℕ}
+use Rattle.cf_journal.specs.Records.{IsRecord}
+use Rattle.cf_journal.specs.declared.walks.Record.{Record}
+use Rattle.cf_journal.proofs.Walking.{WalkedOn, walked_next}
 use Rattle.cf_journal.proofs.walks.records.Goals as goal
 
-pub records-init : goal.records-init
-records-init c = rw (c.new-payloads.ensures.items, c.new-r.ensures) (walked_none c.args.bytes.now c.requires.some)
-
-pub next_step-requires : goal.next_step-requires
-next_step-requires c = c.records.invariant.some
-
-pub returns-in-End-clause-whole : goal.returns-in-End-clause-whole
-returns-in-End-clause-whole c = λ _. walked_end c.args.bytes.now c.records.payloads.items c.records.end c.records.r.rest c.in-End.ensures.0 c.records.invariant c.in-End.ensures.1
-
-pub returns-in-End-clause-end : goal.returns-in-End-clause-end
-returns-in-End-clause-end c = c.records.invariant.size
-
-pub returns-in-Overrun-clause-torn : goal.returns-in-Overrun-clause-torn
-returns-in-Overrun-clause-torn c = λ _. walked_over c.args.bytes.now c.records.payloads.items c.records.end c.records.r.rest c.records.invariant c.in-Overrun.ensures
-
-pub returns-in-Overrun-clause-end : goal.returns-in-Overrun-clause-end
-returns-in-Overrun-clause-end c = c.records.invariant.size
-
-pub overflow_add-end-in-Payload : goal.overflow_add-end-in-Payload
-overflow_add-end-in-Payload c = omega (arith, c.requires.few, walked_fits c.args.bytes.now c.records.payloads.items c.records.end c.records.r.rest c.in-Payload.ensures.0 c.in-Payload.payload.now c.next_step.new.r.rest c.records.invariant c.in-Payload.ensures.3)
-
 pub records-preserved : goal.records-preserved
-records-preserved c =
-    rw (c.in_ok-push-in-Payload.ensures.items, c.in_ok-from_slice-in-Payload.ensures)
-    (walked_more c.args.bytes.now c.records.payloads.items c.records.end c.records.r.rest c.in-Payload.ensures.0 c.in-Payload.payload.now c.next_step.new.r.rest c.records.invariant c.in-Payload.ensures.1 c.in-Payload.ensures.2 c.in-Payload.ensures.3 c.in-Payload.ensures.4)
+records-preserved g c =
+    let found = subst (λ (r : Record). IsRecord r (c.args.at + c.records.end) (c.args.len - c.records.end) (g.D.Disk.state c.records.disk).seen) c.in-Payload.is c.in_ok-next_record.ensures.found in
+    subst (λ (ps : List (List ℕ)). WalkedOn c.args.at c.args.len ps (c.records.end + (5 + c.len.result)) (g.D.Disk.state c.args.disk.now) (g.D.Disk.state c.next_record.new.disk))
+    (ap (λ (p : List ℕ). c.records.payloads.items ++ p ∷ []) (sym c.from_vec.ensures) ∙ sym c.in_ok-push-in-Payload.ensures.items)
+    (subst (λ (n : ℕ). WalkedOn c.args.at c.args.len (c.records.payloads.items ++ c.in-Payload.payload.items ∷ []) (c.records.end + (5 + n)) (g.D.Disk.state c.args.disk.now) (g.D.Disk.state c.next_record.new.disk)) (sym (c.len.ensures ∙ c.in-Payload.payload.ok.0))
+    (walked_next c.args.at c.args.len c.records.end found.0 c.records.payloads.items c.in-Payload.payload.items (g.D.Disk.state c.args.disk.now) (g.D.Disk.state c.records.disk) (g.D.Disk.state c.next_record.new.disk) (omega (arith, c.requires.room, c.requires.size)) c.records.invariant c.next_record.ensures.reads found.1 found.2 found.3 found.4))

@@ -1,9 +1,9 @@
-use Rattle.std.proofs.Common.{length}
-use Rattle.cf_journal.proofs.Reading.{Walked}
+use Rattle.std.proofs.Common.{◌-◌}
+use Rattle.cf_journal.proofs.Walking.{WalkedOn}
 use Rattle.cf_journal.proofs.walks.records.Given as goal
 
 abbrev pub invariant-records : goal.invariant-records
-invariant-records l = Walked l.bytes l.payloads.items l.end l.r.rest
+invariant-records g l = WalkedOn l.at l.len l.payloads.items l.end (g.D.Disk.state l.fn.disk) (g.D.Disk.state l.disk)
 
 abbrev pub decreases-records : goal.decreases-records
-decreases-records l = length l.r.rest
+decreases-records g l = l.len - l.end
