@@ -6,4 +6,5 @@ pub mod Keeping
 pub mod Moves
 pub mod Opening
 pub mod Swaps
+pub mod WordSets
 pub mod Writes

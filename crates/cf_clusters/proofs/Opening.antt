@@ -4,7 +4,7 @@ use Rattle.std.specs.List.{list_any}
 use Rattle.std.specs.Prelude.{All}
 use Rattle.std.proofs.lemmas.Bool.{cases_Bool, eqb-true, eq-eqb}
 use Rattle.std.proofs.lemmas.Bool.Decides.{nat_tests}
-use Rattle.std.proofs.lemmas.List.{get_or-map, length-map}
+use Rattle.std.proofs.lemmas.List.{ext_get_or, get_or-map, length-map}
 use Rattle.cf_clusters.specs.declared.uses.Use.{Use}
 use Rattle.cf_clusters.specs.declared.uses.Use.TheVariants.{Free, Held, Staged}
 use Rattle.cf_clusters.specs.Roles.{how_many, is_free, is_dropped, use_of, committed, AreApart, HoldsAll, Opens}
@@ -15,14 +15,13 @@ pub length-descending : (n : ℕ) → length (descending n) ≡ n
 length-descending zero = refl
 length-descending (suc n) = omega (arith, length-descending n)
 
-pub descending_next : (x rest n : ℕ) → x ≡ rest → n ≡ rest + 1 → x ∷ descending rest ≡ descending n
-descending_next x rest zero e h = absurd (omega arith)
-descending_next x rest (suc n) e h = ap (λ k. k ∷ descending rest) (omega arith) ∙ ap (λ k. n ∷ descending k) (omega arith)
-
 get_or-descending : (n k : ℕ) → k < n → get_or (descending n) k 0 + k + 1 ≡ n
 get_or-descending zero k lt = absurd (omega arith)
 get_or-descending (suc n) zero lt = omega arith
 get_or-descending (suc n) (suc k) lt = omega (arith, get_or-descending n k (omega arith))
+
+pub descends : (n : ℕ) (l : List ℕ) → length l ≡ n → ((k : ℕ) → k < n → get_or l k 0 + k + 1 ≡ n) → l ≡ descending n
+descends n l long numbers = ext_get_or 0 l (descending n) (long ∙ sym (length-descending n)) (λ k less. let lt : k < n = omega (arith, less, long) in omega (arith, numbers k lt, get_or-descending n k lt))
 
 pub descending_low : (n k : ℕ) → k < n → get_or (descending n) k 0 < n
 descending_low n k lt = omega (arith, get_or-descending n k lt)

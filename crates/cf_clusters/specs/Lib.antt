@@ -2,3 +2,4 @@ pub mod Area
 pub mod Layout
 pub mod LeastNumbers
 pub mod Roles
+pub mod WordBits

@@ -1,110 +1,64 @@
 //! A set of numbers that finds its least one.
 
-ghost use Rattle.std.specs.Prelude.{◌≡◌, ◌<◌, ◌≤◌, ◌*◌, ◌+◌, length, replicate, slice_set, true, false, All, IfOk};
+ghost use Rattle.std.specs.Prelude.{◌≡◌, ◌<◌, ◌/◌, length, replicate, slice_set, true, false, All, IfOk};
 ghost use Rattle.std.specs.List.{position_or_len};
-ghost use Rattle.cf_clusters.specs.LeastNumbers.{added, AreNodes, HasLeaves, Puts};
+ghost use Rattle.cf_clusters.specs.LeastNumbers.{added};
+ghost use Rattle.cf_clusters.specs.WordBits.{used_words, Sets};
 
+use crate::number_trees::NumberTree;
 use cf_base::OutOfMemory;
 use std::alloc::Global;
 use std::marker::Model;
 
-// Each number at its place in the last half.
-fn put_leaves(least: &mut [u32], width: usize)
-    requires size { length least.old ≡ 2 * width }
-    requires small { width ≤ 4_294_967_296 }
-    ensures { HasLeaves width least.new }
+// Sets the bit of a number.
+fn set_bit(words: &mut Vec<u64>, used: &mut NumberTree, number: u32)
+    requires inside { number / 64 < length words.old.items }
+    requires used { used.old ≡ used_words words.old.items }
+    ensures sets { Sets number true words.old.items words.new.items }
+    ensures used { used.new ≡ used_words words.new.items }
 {
-    for number in 0..width {
-        least[width + number] = number as u32;
+    let word = number / 64;
+    let old = words[word as usize];
+    words[word as usize] = old | (1 << (number % 64));
+    if old == 0 {
+        used.insert(word);
     }
 }
 
-// At each place of the first half the least of the two below it.
-fn put_nodes(least: &mut [u32], width: usize)
-    requires size { length least.old ≡ 2 * width }
-    requires leaves { HasLeaves width least.old }
-    requires some { 0 < width }
-    ensures leaves { HasLeaves width least.new }
-    ensures nodes { AreNodes width least.new }
+// Clears the bit of a number.
+fn clear_bit(words: &mut Vec<u64>, used: &mut NumberTree, number: u32)
+    requires inside { number / 64 < length words.old.items }
+    requires used { used.old ≡ used_words words.old.items }
+    ensures sets { Sets number false words.old.items words.new.items }
+    ensures used { used.new ≡ used_words words.new.items }
 {
-    let mut place = width;
-    while place > 1 {
-        place -= 1;
-        least[place] = least[2 * place].min(least[2 * place + 1]);
+    let word = number / 64;
+    let left = words[word as usize] & !(1 << (number % 64));
+    words[word as usize] = left;
+    if left == 0 {
+        used.remove(word);
     }
 }
 
-fn put_all(least: &mut [u32], width: usize)
-    requires size { length least.old ≡ 2 * width }
-    requires some { 0 < width }
-    requires small { width ≤ 4_294_967_296 }
-    ensures leaves { HasLeaves width least.new }
-    ensures nodes { AreNodes width least.new }
-{
-    put_leaves(least, width);
-    put_nodes(least, width);
-}
-
-// The same of a vector.
-fn put_all_vec(least: &mut Vec<u32>, width: usize)
-    requires size { length least.old.items ≡ 2 * width }
-    requires some { 0 < width }
-    requires small { width ≤ 4_294_967_296 }
-    ensures size { length least.new.items ≡ 2 * width }
-    ensures leaves { HasLeaves width least.new.items }
-    ensures nodes { AreNodes width least.new.items }
-{
-    put_all(least, width);
-}
-
-// Puts a value at a place of the last half, and goes up from there.
-fn put(least: &mut [u32], width: usize, leaf: usize, value: u32)
-    requires size { length least.old ≡ 2 * width }
-    requires nodes { AreNodes width least.old }
-    requires last { width ≤ leaf }
-    requires inside { leaf < 2 * width }
-    ensures leaves { Puts width leaf value least.old least.new }
-    ensures nodes { AreNodes width least.new }
-{
-    least[leaf] = value;
-    let mut place = leaf;
-    while place > 1 {
-        place /= 2;
-        least[place] = least[2 * place].min(least[2 * place + 1]);
-    }
-}
-
-// The same of a vector.
-fn put_vec(least: &mut Vec<u32>, width: usize, leaf: usize, value: u32)
-    requires size { length least.old.items ≡ 2 * width }
-    requires nodes { AreNodes width least.old.items }
-    requires last { width ≤ leaf }
-    requires inside { leaf < 2 * width }
-    ensures size { length least.new.items ≡ length least.old.items }
-    ensures leaves { Puts width leaf value least.old.items least.new.items }
-    ensures nodes { AreNodes width least.new.items }
-{
-    put(least, width, leaf, value);
-}
-
-/// Some of the numbers below a count. They stand at the last places of a tree, each other place of which has the least
-/// of the two below it, so that a change costs a logarithm of the count and the least one costs nothing. The count
-/// stands for a number that is not there.
+/// Some of the numbers below a count. Each has a bit in a word of 64, and the words that are not 0 stand in a tree, so
+/// that a change costs a logarithm of the count at most, and the least number costs nothing. The bit of the count itself
+/// is set always, so that some word is not 0.
 #[derive(Drop)]
 pub(crate) struct FreeNumbers {
-    least: Vec<u32>,
+    words: Vec<u64>,
+    used: NumberTree,
     count: u32,
 }
 
 impl Model for FreeNumbers {
     ghost use Rattle.std.specs.Prelude.{Bool, List};
-    ghost use Rattle.cf_clusters.specs.LeastNumbers.{flags_in, IsTree};
+    ghost use Rattle.cf_clusters.specs.WordBits.{bits_in, IsWordSet};
 
     ghost Value = { List Bool };
 
-    ghost view = { λ f. flags_in f.count f.least.items };
+    ghost view = { λ f. bits_in f.count f.words.items };
 
-    ghost invariant = { λ f. IsTree f.count f.least.items };
+    ghost invariant = { λ f. IsWordSet f.count f.words.items f.used };
 }
 
 impl FreeNumbers {
@@ -112,34 +66,33 @@ impl FreeNumbers {
     pub(crate) fn all(alloc: Global, count: u32) -> Result<FreeNumbers, OutOfMemory>
         ensures { IfOk result (λ f. f ≡ replicate count true) }
     {
-        let width = count as usize + 1;
-        let mut least = Vec::with_capacity(alloc, 2 * width)?;
-        least.resize(2 * width, 0)?;
-        put_all_vec(&mut least, width);
-        Ok(FreeNumbers { least, count })
+        let size = count / 64 + 1;
+        let mut words = Vec::with_capacity(alloc, size as usize)?;
+        words.resize(size as usize, u64::MAX)?;
+        let used = NumberTree::all(alloc, size)?;
+        Ok(FreeNumbers { words, used, count })
     }
 
     /// The least number, or the count where there is none.
     pub(crate) fn least(&self) -> u32
         ensures { result ≡ position_or_len (λ b. b) self.now }
     {
-        self.least[1]
+        let word = self.used.least();
+        64 * word + self.words[word as usize].trailing_zeros()
     }
 
     pub(crate) fn insert(&mut self, number: u32)
         requires { number < length self.old }
         ensures { self.new ≡ slice_set self.old number true }
     {
-        let width = self.count as usize + 1;
-        put_vec(&mut self.least, width, width + number as usize, number);
+        set_bit(&mut self.words, &mut self.used, number);
     }
 
     pub(crate) fn remove(&mut self, number: u32)
         requires { number < length self.old }
         ensures { self.new ≡ slice_set self.old number false }
     {
-        let width = self.count as usize + 1;
-        put_vec(&mut self.least, width, width + number as usize, self.count);
+        clear_bit(&mut self.words, &mut self.used, number);
     }
 }
 

@@ -9,6 +9,7 @@
 mod clusters;
 mod free_numbers;
 mod laws;
+mod number_trees;
 mod orders;
 mod uses;
 

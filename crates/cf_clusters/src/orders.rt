@@ -5,15 +5,33 @@ ghost use Rattle.cf_clusters.specs.Layout.{descending, moved, AreInverse};
 use cf_base::OutOfMemory;
 use std::alloc::Global;
 
+// Puts the numbers below the length, from the greatest down.
+fn put_numbers(order: &mut [u32])
+    requires { length order.old < 2 ^ 32 }
+    ensures { order.new ≡ descending (length order.old) }
+{
+    let count = order.len();
+    for place in 0..count {
+        order[place] = (count - 1 - place) as u32;
+    }
+}
+
+// The same of a vector.
+fn put_numbers_vec(order: &mut Vec<u32>)
+    requires { length order.old.items < 2 ^ 32 }
+    ensures { order.new.items ≡ descending (length order.old.items) }
+{
+    put_numbers(order);
+}
+
 // The numbers below a count, from the greatest down.
 pub(crate) fn numbers(alloc: Global, count: u32) -> Result<Vec<u32>, OutOfMemory>
     ensures { IfOk result (λ v. v.items ≡ descending count) }
 {
-    let mut out = Vec::with_capacity(alloc, count as usize)?;
-    for number in 0..count {
-        out.push(count - 1 - number)?;
-    }
-    Ok(out)
+    let mut order = Vec::with_capacity(alloc, count as usize)?;
+    order.resize(count as usize, 0)?;
+    put_numbers_vec(&mut order);
+    Ok(order)
 }
 
 // Swaps the numbers at two places.

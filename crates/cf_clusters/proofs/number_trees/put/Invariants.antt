@@ -1,5 +1,5 @@
 use Rattle.cf_clusters.proofs.TreeLaws.{IsRising}
-use Rattle.cf_clusters.proofs.free_numbers.put.Given as goal
+use Rattle.cf_clusters.proofs.number_trees.put.Given as goal
 
 abbrev pub invariant-loop-place : goal.invariant-loop-place
 invariant-loop-place l = IsRising l.place l.width l.fn.leaf l.fn.value l.fn.least l.least

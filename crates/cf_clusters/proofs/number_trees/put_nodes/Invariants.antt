@@ -1,5 +1,5 @@
 use Rattle.cf_clusters.proofs.TreeLaws.{AreFilled}
-use Rattle.cf_clusters.proofs.free_numbers.put_nodes.Given as goal
+use Rattle.cf_clusters.proofs.number_trees.put_nodes.Given as goal
 
 abbrev pub invariant-loop-place : goal.invariant-loop-place
 invariant-loop-place l = AreFilled l.place l.width l.least

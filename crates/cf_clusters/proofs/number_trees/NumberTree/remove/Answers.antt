@@ -1,0 +1,12 @@
+use Rattle.std.proofs.Common.{◌<◌, Bool, false, List, length, set, ap, ◌∙◌, arith}
+use Rattle.std.proofs.lemmas.Bool.{le-ltb}
+use Rattle.cf_clusters.proofs.TreeRoots.{flags_put, length-flags}
+use Rattle.cf_clusters.proofs.number_trees.NumberTree.remove.Goals as goal
+
+pub returns : goal.returns
+returns c =
+    let count = c.self.inside.count in
+    let least = c.self.inside.least.items in
+    let inside : c.args.number < count = omega (arith, c.requires, ap (λ (l : List Bool). length l) c.self.view_is, length-flags count least c.self.invariant.size) in
+    flags_put count c.args.number count least c.put_vec.new.least.items c.self.invariant inside c.put_vec.ensures.size c.put_vec.ensures.leaves false (le-ltb count count (omega arith))
+    ∙ ap (λ (l : List Bool). set l c.args.number false) c.self.view_is
