@@ -9,6 +9,7 @@ pub mod EntrySets
 pub mod Fields
 pub mod Finds
 pub mod Formats
+pub mod FrontRows
 pub mod HeldBlocks
 pub mod Indexed
 pub mod IndexedAdds

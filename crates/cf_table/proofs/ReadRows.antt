@@ -1,20 +1,16 @@
 -- Rows as they are read, one after the other.
 use Rattle.std.proofs.Common.{◌≡◌, ℕ, zero, suc, ◌+◌, ◌-◌, ◌<◌, ◌≤◌, List, [], ◌∷◌, ◌++◌, length, length-append, refl, sym, ap, subst, ◌∙◌, append_assoc, append-nil, arith, inl, inr, Option, Some, None}
-use Rattle.std.proofs.lemmas.Bool.{eq-eqb, lt-ltb}
-use Rattle.std.specs.Prelude.{map}
+use Rattle.std.specs.Prelude.{All, map}
+use Rattle.std.proofs.lemmas.List.Elements.{All-cons, All-nil}
 use Rattle.cf_codec.specs.Left.{Left, Takes}
-use Rattle.cf_base.specs.declared.ids.ItemId.{ItemId}
-use Rattle.cf_model.specs.Items.{root}
 use Rattle.cf_codec.specs.declared.formats.Format.{Format}
 use Rattle.cf_model.specs.Rows as model
 use Rattle.cf_table.specs.Faults.{AtRow, AtRows}
 use Rattle.cf_table.specs.Reading.{AreRowsIn, IsAbove, IsRowIn}
 use Rattle.cf_table.specs.Spelling.{row_value, spell_each_in, spell_row_in}
-use Rattle.cf_table.specs.Tables.{MeansAll, with_row, without_row}
 use Rattle.cf_table.specs.declared.failures.RowError.{RowError}
 use Rattle.cf_table.specs.declared.failures.RowError.TheVariants.{OutOfMemory}
 use Rattle.cf_table.specs.declared.rows.Row.{Row}
-use Rattle.cf_table.proofs.TableMeans.{same_id}
 use Rattle.cf_table.proofs.Taken.{takes_both}
 
 pub row_fault : (f : Format) (before : Option ℕ) (n m : ℕ) (left : Left) (e : RowError) → n ≡ suc m → AtRow f before left e → AtRows f before n left e
@@ -66,16 +62,6 @@ pub above_then : (before : Option ℕ) (all xs : List Row) (r : Row) → all ≡
 above_then before all xs r is so above id h =
     subst (λ (v : List Row). AreBelow id v) (sym is) (below_append xs r id (below_more xs r.id.0 id h (so r.id.0 above)) h)
 
--- a row above all others goes to the end
-put_last : (xs : List Row) (r : Row) → AreBelow r.id.0 xs → with_row r xs ≡ xs ++ r ∷ []
-put_last [] r all = refl
-put_last (x ∷ xs) r all = rw (lt-ltb x.id.0 r.id.0 all.0) (ap (λ v. x ∷ v) (put_last xs r all.1))
-
-pub put_behind : (before : Option ℕ) (all xs : List Row) (r : Row) → all ≡ with_row r xs → ((id : ℕ) → IsAbove before id → AreBelow id xs) → IsAbove before r.id.0 → all ≡ xs ++ r ∷ []
-put_behind before all xs r is so above = is ∙ put_last xs r (so r.id.0 above)
-
--- a table that is made has its root alone
-pub no_rows_left : (rows : List Row) (id : ItemId) → MeansAll rows (root ∷ []) → id.0 ≡ 1 → without_row id rows ≡ []
-no_rows_left [] id m is = absurd m
-no_rows_left (r ∷ []) id m is = rw (eq-eqb r.id.0 id.0 (same_id r root m.0 ∙ sym is)) refl
-no_rows_left (r ∷ s ∷ rs) id m is = absurd m.1
+pub all_below : (id : ℕ) (xs : List Row) → AreBelow id xs → All (λ r. r.id.0 < id) xs
+all_below id [] h = All-nil (λ (r : Row). r.id.0 < id)
+all_below id (x ∷ xs) h = All-cons (λ (r : Row). r.id.0 < id) x xs h.0 (all_below id xs h.1)

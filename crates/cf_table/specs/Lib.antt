@@ -4,6 +4,7 @@ pub mod Changing
 pub mod Faults
 pub mod Index
 pub mod Kinds
+pub mod Listed
 pub mod Means
 pub mod Reading
 pub mod Spelling

@@ -30,6 +30,7 @@ mod spelling;
 mod table_changes;
 mod tables;
 mod targets;
+mod unindexed_rows;
 mod usns;
 mod volume_changes;
 
@@ -44,4 +45,5 @@ pub use new_rows::Place;
 pub use read_laws::{format_2_spells_all, one_row_in_a_text};
 pub use rows::{NO_USN, ROOT, Row};
 pub use tables::Rows;
+pub use unindexed_rows::UnindexedRows;
 pub use usns::{is_above, same_usn};

@@ -11,9 +11,10 @@ ghost use Rattle.cf_table.specs.Tables.{RisesFrom};
 use crate::failures::RowError;
 use crate::heads::{Head, read_head};
 use crate::plain_fields::{read_1, read_2, read_4, read_bytes};
-use crate::rows::{ROOT, Row};
+use crate::rows::Row;
 use crate::set_reads::{Sets, read_sets};
 use crate::tables::Rows;
+use crate::unindexed_rows::UnindexedRows;
 use cf_base::{Blob, Identity, ItemId, OutOfMemory};
 use cf_codec::{Format, Reader};
 use std::alloc::Global;
@@ -87,39 +88,25 @@ fn read_row(
     Ok(row_of(head, name, identity, sets))
 }
 
-// A table is made with its root, which is not one of the rows that are read.
-#[tactic(auto, using(crate::proofs::ReadRows::no_rows_left))]
-fn no_rows(alloc: Global, next: ItemId) -> Result<Rows, OutOfMemory>
-    ensures rows { IfOk result (λ t. t.rows ≡ []) }
-    ensures next { IfOk result (λ t. t.next ≡ next) }
-{
-    let mut rows = Rows::new(alloc)?;
-    rows.remove_row(ROOT);
-    rows.set_next(next);
-    Ok(rows)
-}
-
 // So many rows, whose ids rise.
 fn read_rows(
     alloc: Global,
     r: &mut Reader,
     format: Format,
     count: u32,
-    next: ItemId,
-) -> Result<Rows, RowError>
-    ensures took { IfOk result (λ t. Takes (spell_each_in format t.rows) r.old r.new) }
-    ensures count { IfOk result (λ t. length t.rows ≡ count) }
-    ensures rows { IfOk result (λ t. AreRowsIn format None (map row_value t.rows)) }
-    ensures room { IfOk result (λ t. All HasRoom t.rows) }
-    ensures next { IfOk result (λ t. t.next ≡ next) }
+) -> Result<UnindexedRows, RowError>
+    ensures took { IfOk result (λ t. Takes (spell_each_in format t) r.old r.new) }
+    ensures count { IfOk result (λ t. length t ≡ count) }
+    ensures rows { IfOk result (λ t. AreRowsIn format None (map row_value t)) }
+    ensures room { IfOk result (λ t. All HasRoom t) }
     ensures fault { IfErr result (AtRows format None count r.old) }
 {
-    let mut rows = no_rows(alloc, next)?;
+    let mut rows = UnindexedRows::new(alloc);
     let mut before = None;
     for _ in 0..count {
         let row = read_row(alloc, r, format, before)?;
         before = Some(row.id.0);
-        rows.put_row(row)?;
+        rows.push_row(row)?;
     }
     Ok(rows)
 }
@@ -175,6 +162,25 @@ impl Row {
     }
 }
 
+impl UnindexedRows {
+    /// Reads how many rows there are, and the rows, whose ids rise; leaves what stands behind them. Short or BadField at
+    /// the first field that lacks bytes or is not spelled, and then no rows are spelled at the front of what is left.
+    pub fn read_front(
+        alloc: Global,
+        r: &mut Reader,
+        format: Format,
+    ) -> Result<UnindexedRows, RowError>
+        ensures took { IfOk result (λ t. Takes (spell_rows_in format (map row_value t)) r.old r.new) }
+        ensures fits { IfOk result (λ t. AreTable format (map row_value t)) }
+        ensures room { IfOk result (λ t. All HasRoom t) }
+        ensures fault { IfErr result (AtTable format r.old) }
+        ensures none { IfErr result (λ e. IsTold e → (rows : List model.Row) (more : List ℕ) → AreTable format rows → r.old.rest ≡ spell_rows_in format rows ++ more → ⊥) }
+    {
+        let count = read_4(r)?;
+        read_rows(alloc, r, format, count)
+    }
+}
+
 impl Rows {
     /// The rows in order of id.
     pub fn as_slice(&self) -> &[Row]
@@ -182,25 +188,6 @@ impl Rows {
         ensures rises { RisesFrom 0 self.now.rows }
     {
         self.rows.as_slice()
-    }
-
-    /// Reads how many rows there are, and the rows, whose ids rise; leaves what stands behind them. Short or BadField at
-    /// the first field that lacks bytes or is not spelled, and then no rows are spelled at the front of what is left.
-    pub fn read_front(
-        alloc: Global,
-        r: &mut Reader,
-        format: Format,
-        next: ItemId,
-    ) -> Result<Rows, RowError>
-        ensures took { IfOk result (λ t. Takes (spell_rows_in format (map row_value t.rows)) r.old r.new) }
-        ensures fits { IfOk result (λ t. AreTable format (map row_value t.rows)) }
-        ensures room { IfOk result (λ t. All HasRoom t.rows) }
-        ensures next { IfOk result (λ t. t.next ≡ next) }
-        ensures fault { IfErr result (AtTable format r.old) }
-        ensures none { IfErr result (λ e. IsTold e → (rows : List model.Row) (more : List ℕ) → AreTable format rows → r.old.rest ≡ spell_rows_in format rows ++ more → ⊥) }
-    {
-        let count = read_4(r)?;
-        read_rows(alloc, r, format, count, next)
     }
 
     /// Reads rows that are spelled in the format, as `spell` does in format 2. Short or BadField at the first field that
@@ -214,8 +201,8 @@ impl Rows {
         ensures none { IfErr result (λ e. IsTold e → (rows : List model.Row) → AreTable format rows → b.now ≡ spell_rows_in format rows → ⊥) }
     {
         let mut r = Reader::new(b);
-        let rows = Rows::read_front(alloc, &mut r, format, next)?;
+        let rows = UnindexedRows::read_front(alloc, &mut r, format)?;
         r.end()?;
-        Ok(rows)
+        Ok(rows.into_rows(next)?)
     }
 }

@@ -1,8 +1,6 @@
 -- The parts of an image or of a payload, taken one after the other up to the end, are its text.
 use Rattle.std.proofs.Common.{◌≡◌, ℕ, List, [], ◌∷◌, ◌++◌, sym, ap, subst, ◌∙◌, append-nil}
 use Rattle.cf_codec.specs.declared.formats.Format.{Format}
-use Rattle.cf_base.specs.declared.ids.ItemId.{ItemId}
-use Rattle.cf_base.specs.declared.ids.Usn.{Usn}
 use Rattle.cf_codec.specs.Left.{Left, Takes}
 use Rattle.cf_model.specs.Formats.{Header, Image, Payload, spell_records}
 use Rattle.cf_table.specs.Spelling.{spell_rows_in}
@@ -27,7 +25,3 @@ payload_taken f p start a b c d e header removed rows keys records end =
     (in_front (ids_bytes p.removed) a b _ removed
     (in_front (spell_rows_in f p.rows) b c _ rows (in_front (keys_bytes p.removed_keys) c d _ keys (in_front (spell_records p.records) d e [] records end))))
     ∙ sym (payload_parts f p []) ∙ append-nil (spell_payload_in f p)
-
--- the next item of the rows is that of the header
-pub same_header : (last : Usn) (count clock : ℕ) (m n : ItemId) → m ≡ n → ◌≡◌ {A = Header} (record { last = last; count = count; next = m; clock = clock }) (record { last = last; count = count; next = n; clock = clock })
-same_header last count clock m n is = ap (λ (x : ItemId). record { last = last; count = count; next = x; clock = clock }) is

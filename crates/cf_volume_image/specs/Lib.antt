@@ -1,6 +1,7 @@
 pub mod Causes
 pub mod ClusterLists
 pub mod Contents
+pub mod Drafts
 pub mod Enough
 pub mod Faults
 pub mod Numbers

@@ -5,17 +5,19 @@ ghost use Rattle.cf_codec.specs.Left.{Takes};
 ghost use Rattle.cf_model.specs.Formats.{Image, spell_header, spell_image};
 ghost use Rattle.cf_table.specs.Faults.{IsTold};
 ghost use Rattle.cf_table.specs.Spelling.{HasRoom};
-ghost use Rattle.cf_volume_image.specs.Contents.{header_of, image_of};
+ghost use Rattle.cf_volume_image.specs.Contents.{image_of};
+ghost use Rattle.cf_volume_image.specs.Drafts.{draft_image};
 ghost use Rattle.cf_volume_image.specs.Faults.{AtFormat, AtImage};
 ghost use Rattle.cf_volume_image.specs.Spelled.{IsImageIn, format_byte, spell_image_in};
 
 use crate::contents::Contents;
+use crate::drafts::Draft;
 use crate::part_reads::{read_header, read_records};
 use crate::part_writes::{put_header, put_records};
 use cf_base::{Blob, OutOfMemory};
 use cf_codec::{Format, Reader, Writer};
 use cf_table::plain_fields::read_1;
-use cf_table::{RowError, Rows};
+use cf_table::{RowError, UnindexedRows};
 use std::alloc::Global;
 
 /// The number of the format that is written.
@@ -59,24 +61,36 @@ fn read_format(r: &mut Reader, format: Format) -> Result<(), RowError>
     }
 }
 
-fn image_in(alloc: Global, r: &mut Reader, format: Format) -> Result<Contents, RowError>
-    ensures took { IfOk result (λ c. r.old.rest ≡ spell_image_in format (image_of c)) }
-    ensures fits { IfOk result (λ c. IsImageIn format (image_of c)) }
-    ensures room { IfOk result (λ c. All HasRoom c.rows.rows) }
+fn image_in(alloc: Global, r: &mut Reader, format: Format) -> Result<Draft, RowError>
+    ensures took { IfOk result (λ d. r.old.rest ≡ spell_image_in format (draft_image d)) }
+    ensures fits { IfOk result (λ d. IsImageIn format (draft_image d)) }
+    ensures room { IfOk result (λ d. All HasRoom d.rows) }
     ensures fault { IfErr result (AtImage format r.old) }
 {
     read_format(r, format)?;
     let header = read_header(r, format)?;
-    let rows = Rows::read_front(alloc, r, format, header.next)?;
+    let rows = UnindexedRows::read_front(alloc, r, format)?;
     let records = read_records(alloc, r)?;
     r.end()?;
-    Ok(Contents {
+    Ok(Draft {
         last: header.last,
         count: header.count,
         clock: header.clock,
+        next: header.next,
         rows,
         records,
     })
+}
+
+/// Reads an image as `read_image` does, of which no row has an index yet.
+pub(crate) fn read_draft(alloc: Global, b: &[u8], format: Format) -> Result<Draft, RowError>
+    ensures spelled { IfOk result (λ d. b.now ≡ spell_image_in format (draft_image d)) }
+    ensures fits { IfOk result (λ d. IsImageIn format (draft_image d)) }
+    ensures room { IfOk result (λ d. All HasRoom d.rows) }
+    ensures fault { IfErr result (AtImage format (record { place = 0; rest = b.now })) }
+{
+    let mut r = Reader::new(b);
+    image_in(alloc, &mut r, format)
 }
 
 /// Reads an image of the format, in format 2 what `spell_image` writes. Short or BadField exactly where the bytes spell no
@@ -90,6 +104,6 @@ pub fn read_image(alloc: Global, b: &[u8], format: Format) -> Result<Contents, R
     ensures fault { IfErr result (AtImage format (record { place = 0; rest = b.now })) }
     ensures none { IfErr result (λ e. IsTold e → (i : Image) → IsImageIn format i → b.now ≡ spell_image_in format i → ⊥) }
 {
-    let mut r = Reader::new(b);
-    image_in(alloc, &mut r, format)
+    let draft = read_draft(alloc, b, format)?;
+    Ok(draft.into_contents()?)
 }

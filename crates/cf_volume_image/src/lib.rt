@@ -8,6 +8,8 @@
 mod blocks;
 mod clusters;
 mod contents;
+mod draft_payloads;
+mod drafts;
 mod failures;
 mod images;
 mod laws;

@@ -8,9 +8,9 @@ ghost use Rattle.cf_volume_image.specs.Contents.{image_of};
 ghost use Rattle.cf_volume_image.specs.States.{IsContentsIn, TellsIn};
 
 use crate::contents::Contents;
+use crate::draft_payloads::read_payload;
 use crate::failures::ImageError;
-use crate::images::read_image;
-use crate::payloads::apply_payload;
+use crate::images::read_draft;
 use crate::sound::is_sound;
 use cf_base::Blob;
 use cf_codec::Format;
@@ -47,20 +47,20 @@ fn contents_of(
     ensures told { IfOk result (λ c. TellsIn format image.now payloads.now (image_of c)) }
     ensures cause { IfErr result (IsUnspelled format image.now payloads.now) }
 {
-    let mut contents = match read_image(alloc, image, format) {
-        Ok(contents) => contents,
+    let mut draft = match read_draft(alloc, image, format) {
+        Ok(draft) => draft,
         Err(fault) => return Err(in_image(fault)),
     };
     for (number, payload) in payloads.iter().enumerate() {
-        match apply_payload(alloc, &mut contents, payload.as_slice(), format) {
+        match read_payload(alloc, &mut draft, payload.as_slice(), format) {
             Ok(()) => {}
             Err(fault) => {
-                drop(contents);
+                drop(draft);
                 return Err(in_payload(number, fault));
             }
         }
     }
-    Ok(contents)
+    Ok(draft.into_contents()?)
 }
 
 /// Reads an image and the payloads behind it, the oldest first. Image or Payload exactly where one of them is not spelled in

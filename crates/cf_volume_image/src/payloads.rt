@@ -166,12 +166,12 @@ pub fn spell_payload(
 /// A payload as it is read.
 #[derive(Drop)]
 pub(crate) struct Changes {
-    header: Header,
-    removed: Vec<ItemId>,
+    pub(crate) header: Header,
+    pub(crate) removed: Vec<ItemId>,
     // In order of id. They are not looked up, so they need no index.
-    rows: Vec<Row>,
-    removed_keys: Vec<Blob>,
-    records: AuxRecords,
+    pub(crate) rows: Vec<Row>,
+    pub(crate) removed_keys: Vec<Blob>,
+    pub(crate) records: AuxRecords,
 }
 
 fn changes_in(alloc: Global, r: &mut Reader, format: Format) -> Result<Changes, RowError>
@@ -195,7 +195,8 @@ fn changes_in(alloc: Global, r: &mut Reader, format: Format) -> Result<Changes, 
     })
 }
 
-fn read_changes(alloc: Global, b: &[u8], format: Format) -> Result<Changes, RowError>
+/// Reads a payload.
+pub(crate) fn read_changes(alloc: Global, b: &[u8], format: Format) -> Result<Changes, RowError>
     ensures spelled { IfOk result (λ c. b.now ≡ spell_payload_in format (changes_of c)) }
     ensures fits { IfOk result (λ c. IsPayloadIn format (changes_of c)) }
     ensures room { IfOk result (λ c. All HasRoom c.rows.items) }
@@ -227,7 +228,8 @@ fn add_rows(rows: &mut Rows, more: Vec<Row>) -> Result<(), OutOfMemory>
     Ok(())
 }
 
-fn remove_records(records: &mut AuxRecords, keys: &[Blob])
+/// Takes the records with the keys out, if they are there.
+pub(crate) fn remove_records(records: &mut AuxRecords, keys: &[Blob])
     ensures { records.new ≡ without_records keys.now records.old }
 {
     for key in keys {
@@ -244,7 +246,8 @@ fn copy_of(aux: &AuxRecord) -> Result<AuxRecord, OutOfMemory>
     })
 }
 
-fn add_records(records: &mut AuxRecords, more: &[AuxRecord]) -> Result<(), OutOfMemory>
+/// Puts copies of the records in place of those with their keys, or adds them.
+pub(crate) fn add_records(records: &mut AuxRecords, more: &[AuxRecord]) -> Result<(), OutOfMemory>
     requires { All IsShort more.now }
     ensures { OnOk result (records.new ≡ with_records more.now records.old) }
 {

@@ -11,10 +11,9 @@ use Rattle.cf_table.proofs.reads.read_rows.Given as goal
 
 abbrev pub invariant-loop : goal.invariant-loop
 invariant-loop l = record {
-  took : Takes (spell_each_in l.format l.rows.rows) l.fn.r l.r;
-  count : length l.rows.rows ≡ l.counter;
-  rows : (more : List model.Row) → AreRowsIn l.format l.before more → AreRowsIn l.format None (map row_value l.rows.rows ++ more);
-  below : (id : ℕ) → IsAbove l.before id → AreBelow id l.rows.rows;
-  next : l.rows.next ≡ l.fn.next;
+  took : Takes (spell_each_in l.format l.rows) l.fn.r l.r;
+  count : length l.rows ≡ l.counter;
+  rows : (more : List model.Row) → AreRowsIn l.format l.before more → AreRowsIn l.format None (map row_value l.rows ++ more);
+  below : (id : ℕ) → IsAbove l.before id → AreBelow id l.rows;
   fault : (e : RowError) → AtRows l.format l.before (l.count - l.counter) l.r e → AtRows l.format None l.count l.fn.r e;
 }

@@ -3,7 +3,7 @@ use Rattle.cf_table.proofs.NoRow.{at_end}
 use Rattle.cf_table.proofs.ReadExit.{exits}
 use Rattle.cf_volume_image.specs.Contents.{read_header_of}
 use Rattle.cf_volume_image.specs.Spelled.{format_byte}
-use Rattle.cf_volume_image.proofs.WholeTexts.{image_taken, same_header}
+use Rattle.cf_volume_image.proofs.WholeTexts.{image_taken}
 use Rattle.cf_volume_image.proofs.images.image_in.Goals as goal
 
 pub returns-in_err-header-clause-fault : goal.returns-in_err-header-clause-fault
@@ -101,6 +101,5 @@ returns-clause-room c = c.in_ok-rows.ensures.room
 
 pub returns-clause-took : goal.returns-clause-took
 returns-clause-took c =
-    image_taken c.args.format _ (read_header_of c.in_ok-header.header) _ _ _ _ _
-    (same_header c.in_ok-header.header.last c.in_ok-header.header.count c.in_ok-header.header.clock c.in_ok-rows.rows.next c.in_ok-header.header.next c.in_ok-rows.ensures.next)
+    image_taken c.args.format _ (read_header_of c.in_ok-header.header) _ _ _ _ _ refl
     c.in_ok-read_format.ensures.took c.in_ok-header.ensures.took c.in_ok-rows.ensures.took c.in_ok-records.ensures.took c.in_ok-end.ensures

@@ -1,7 +1,7 @@
 use Rattle.std.proofs.Common.{inr}
 use Rattle.cf_table.proofs.NoRow.{no_table}
 use Rattle.cf_table.proofs.ReadExit.{err_weaker}
-use Rattle.cf_table.proofs.tables.Rows.read_front.Goals as goal
+use Rattle.cf_table.proofs.unindexed_rows.UnindexedRows.read_front.Goals as goal
 
 pub returns-clause-none : goal.returns-clause-none
 returns-clause-none c =
