@@ -15,7 +15,7 @@ use crate::rows::Row;
 use crate::set_reads::{Sets, read_sets};
 use crate::tables::Rows;
 use crate::unindexed_rows::UnindexedRows;
-use cf_base::{Blob, Identity, ItemId, OutOfMemory};
+use cf_base::{Blob, Identity, ItemId};
 use cf_codec::{Format, Reader};
 use std::alloc::Global;
 

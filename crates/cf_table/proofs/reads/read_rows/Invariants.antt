@@ -1,5 +1,5 @@
-use Rattle.std.proofs.Common.{ℕ, List, length, ◌≡◌, ◌<◌, ◌-◌, ◌++◌, None}
-use Rattle.std.specs.Prelude.{All, map}
+use Rattle.std.proofs.Common.{ℕ, List, length, ◌≡◌, ◌-◌, ◌++◌, None}
+use Rattle.std.specs.Prelude.{map}
 use Rattle.cf_codec.specs.Left.{Takes}
 use Rattle.cf_model.specs.Rows as model
 use Rattle.cf_table.specs.Faults.{AtRows}

@@ -1,4 +1,4 @@
-use Rattle.std.proofs.Common.{◌≡◌, ap, arith, refl}
+use Rattle.std.proofs.Common.{arith}
 use Rattle.cf_table.proofs.FrontRows.{front_in_order, front_more}
 use Rattle.cf_table.proofs.unindexed_rows.index_rows.Goals as goal
 
