@@ -1,12 +1,9 @@
-use Rattle.std.proofs.Common.{inl, sym, subst, ◌∙◌, ap}
-use Rattle.std.specs.Prelude.{All, IfErr}
+use Rattle.std.proofs.Common.{◌∙◌, List, ap, subst, sym}
+use Rattle.std.specs.Prelude.{All}
 use Rattle.cf_model.specs.Formats.{Image}
 use Rattle.cf_table.proofs.ReadExit.{exits}
 use Rattle.cf_table.specs.Spelling.{HasRoom}
-use Rattle.cf_table.specs.declared.failures.RowError.TheVariants.{OutOfMemory}
 use Rattle.cf_table.specs.declared.rows.Row.{Row}
-use Rattle.std.proofs.Common.{List}
-use Rattle.cf_volume_image.specs.Faults.{AtImage}
 use Rattle.cf_volume_image.specs.Spelled.{IsImageIn, spell_image_in}
 use Rattle.cf_volume_image.proofs.NoImage.{no_image}
 use Rattle.cf_volume_image.proofs.images.read_image.Goals as goal
