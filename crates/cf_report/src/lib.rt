@@ -6,6 +6,7 @@
 
 mod changes;
 mod codes;
+mod hexadecimal;
 mod notices;
 mod results;
 mod words;

@@ -1,8 +1,9 @@
 //! Words at the end of a text that grows.
 
-ghost use Rattle.std.specs.Prelude.{◌≡◌, ◌∷◌, ◌++◌, OnOk};
+ghost use Rattle.std.specs.Prelude.{◌≡◌, ◌≤◌, ◌∷◌, ◌++◌, OnOk, length};
 ghost use Rattle.cf_report.specs.Words.{bytes_text, decimal, escape, hex_digits, key_text, name_text, pair_text, usn_text};
 
+use crate::hexadecimal::put_digits_vec;
 use cf_base::{Key, OutOfMemory, Usn};
 use itoa::Buffer;
 
@@ -73,18 +74,26 @@ pub fn push_key(out: &mut Vec<u8>, key: Key) -> Result<(), OutOfMemory>
     push_pair(out, key.epoch, key.number)
 }
 
-// Adds bytes in hexadecimal digits, a piece after the other, so that no second text of all digits is made.
+// Adds bytes in hexadecimal digits, a piece after the other. The text grows by a piece at once, and its digits are put there.
 fn push_digits(out: &mut Vec<u8>, bytes: &[u8]) -> Result<(), OutOfMemory>
     ensures { OnOk result (out.new.items ≡ out.old.items ++ hex_digits bytes.now) }
 {
-    let alloc = *out.allocator();
     let mut rest = bytes;
     while !rest.is_empty() {
         let (piece, more) = rest.split_at(rest.len().min(PIECE));
-        let digits = hex::encode(alloc, piece)?;
-        push_plain(out, digits.as_bytes())?;
+        push_piece(out, piece)?;
         rest = more;
     }
+    Ok(())
+}
+
+fn push_piece(out: &mut Vec<u8>, piece: &[u8]) -> Result<(), OutOfMemory>
+    requires { length piece.now ≤ 65536 }
+    ensures { OnOk result (out.new.items ≡ out.old.items ++ hex_digits piece.now) }
+{
+    let start = out.len();
+    out.resize(start + 2 * piece.len(), b'0')?;
+    put_digits_vec(out, start, piece);
     Ok(())
 }
 
