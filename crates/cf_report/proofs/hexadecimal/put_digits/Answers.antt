@@ -1,6 +1,5 @@
 use Rattle.std.proofs.Common.{◌++◌, ◌∙◌, List, ℕ, ap, take}
 use Rattle.cf_report.proofs.Digits.{hex_same}
-use Rattle.cf_report.specs.Words.{hex_digits}
 use Rattle.cf_report.proofs.hexadecimal.put_digits.Goals as goal
 
 pub returns : goal.returns
