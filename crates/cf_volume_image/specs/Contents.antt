@@ -4,7 +4,7 @@ use Rattle.cf_base.specs.declared.answers.AuxRecord.{AuxRecord}
 use Rattle.cf_base.specs.declared.ids.ItemId.{ItemId}
 use Rattle.cf_volume_image.specs.declared.contents.Contents.{Contents}
 use Rattle.cf_volume_image.specs.declared.part_reads.Header.{Header as Read}
-use Rattle.cf_volume_image.specs.declared.payloads.Changes.{Changes}
+use Rattle.cf_volume_image.specs.declared.payload_reads.Changes.{Changes}
 use Rattle.cf_model.specs.Formats.{Header, Image, Payload}
 use Rattle.cf_model.specs.Rows.{Row}
 use Rattle.cf_model.specs.Words.{same}

@@ -8,9 +8,9 @@ ghost use Rattle.cf_volume_image.specs.Contents.{image_of};
 ghost use Rattle.cf_volume_image.specs.States.{IsContentsIn, TellsIn};
 
 use crate::contents::Contents;
-use crate::draft_payloads::read_payload;
 use crate::failures::ImageError;
 use crate::images::read_draft;
+use crate::payload_reads::read_payload;
 use crate::sound::is_sound;
 use cf_base::Blob;
 use cf_codec::Format;
@@ -37,8 +37,9 @@ fn in_payload(number: usize, fault: RowError) -> ImageError
     }
 }
 
-// What image and payloads spell, sound or not.
-fn contents_of(
+/// Reads what an image and the payloads behind it spell, the oldest first, whether it is sound or not. Image or Payload exactly where one of
+/// them is not spelled in the format, at the first field of the first that is not. OutOfMemory where there is none.
+pub fn read_spelled(
     alloc: Global,
     image: &[u8],
     payloads: &[Blob],
@@ -81,7 +82,7 @@ pub fn read_contents(
     ensures cause { IfErr result (IsCause format image.now payloads.now clusters) }
     ensures none { IfErr result (λ e. IsKnown e → (state : Image) → IsContentsIn format image.now payloads.now clusters state → ⊥) }
 {
-    let contents = contents_of(alloc, image, payloads, format)?;
+    let contents = read_spelled(alloc, image, payloads, format)?;
     if is_sound(alloc, &contents, format, clusters)? {
         Ok(contents)
     } else {

@@ -1,28 +1,19 @@
-//! Payloads: what changed since the last point.
+//! Payloads: what changed since the last point, spelled.
 
-ghost use Rattle.std.specs.Prelude.{◌≡◌, ◌≤◌, ◌<◌, ◌^◌, ◌++◌, ◌∷◌, [], List, None, IfOk, IfErr, OnOk, OnErr, All, length, map};
+ghost use Rattle.std.specs.Prelude.{◌≡◌, ◌≤◌, ◌<◌, ◌^◌, ◌++◌, IfOk, OnOk, All, length, map};
 ghost use Rattle.std.specs.List.{flat_map};
-ghost use Rattle.cf_codec.specs.Left.{Takes};
-ghost use Rattle.cf_model.specs.Formats.{Payload, after_payload, with_records, with_rows, spell_header, spell_id, spell_key, spell_payload, spell_record, spell_records, spell_rows};
+ghost use Rattle.cf_model.specs.Formats.{spell_id, spell_key, spell_payload, spell_record, spell_records, spell_rows};
 ghost use Rattle.cf_model.specs.Rows.{spell_row};
-ghost use Rattle.cf_model.specs.Words.{in_bytes};
-ghost use Rattle.cf_table.specs.Faults.{IsTold};
 ghost use Rattle.cf_table.specs.Spelling.{HasRoom, row_value};
-ghost use Rattle.cf_table.specs.Tables.{RisesFrom};
-ghost use Rattle.cf_volume_image.specs.Contents.{changes_of, header_of, image_of, one_record, one_row, payload_of, records_at, rows_at};
-ghost use Rattle.cf_volume_image.specs.Faults.{AtPayload};
-ghost use Rattle.cf_volume_image.specs.RecordLists.{IsShort};
-ghost use Rattle.cf_volume_image.specs.Spelled.{IsPayloadIn, spell_payload_in};
-ghost use Rattle.cf_volume_image.specs.States.{IsAfterIn, without_records, without_rows};
+ghost use Rattle.cf_volume_image.specs.Contents.{one_record, one_row, payload_of, records_at, rows_at};
 
 use crate::contents::Contents;
-use crate::part_reads::{Header, read_header, read_ids, read_keys, read_records};
 use crate::part_writes::{put_count, put_header, put_key, put_record};
 use crate::records::AuxRecords;
-use cf_base::{AuxRecord, Blob, ItemId, OutOfMemory};
-use cf_codec::{Format, Reader, Writer};
+use cf_base::{Blob, ItemId, OutOfMemory};
+use cf_codec::Writer;
+use cf_table::Rows;
 use cf_table::plain_fields::{put_4, put_8};
-use cf_table::{Row, RowError, Rows};
 use std::alloc::Global;
 
 fn put_ids(out: &mut Writer, ids: &[ItemId]) -> Result<(), OutOfMemory>
@@ -161,139 +152,4 @@ pub fn spell_payload(
     put_keys(&mut out, removed_keys)?;
     put_records(alloc, &mut out, &contents.records, changed_keys)?;
     Ok(out.into_blob())
-}
-
-/// A payload as it is read.
-#[derive(Drop)]
-pub(crate) struct Changes {
-    pub(crate) header: Header,
-    pub(crate) removed: Vec<ItemId>,
-    // In order of id. They are not looked up, so they need no index.
-    pub(crate) rows: Vec<Row>,
-    pub(crate) removed_keys: Vec<Blob>,
-    pub(crate) records: AuxRecords,
-}
-
-fn changes_in(alloc: Global, r: &mut Reader, format: Format) -> Result<Changes, RowError>
-    ensures took { IfOk result (λ c. r.old.rest ≡ spell_payload_in format (changes_of c)) }
-    ensures fits { IfOk result (λ c. IsPayloadIn format (changes_of c)) }
-    ensures room { IfOk result (λ c. All HasRoom c.rows.items) }
-    ensures fault { IfErr result (AtPayload format r.old) }
-{
-    let header = read_header(r, format)?;
-    let removed = read_ids(alloc, r)?;
-    let rows = Row::read_list(alloc, r, format)?;
-    let removed_keys = read_keys(alloc, r)?;
-    let records = read_records(alloc, r)?;
-    r.end()?;
-    Ok(Changes {
-        header,
-        removed,
-        rows,
-        removed_keys,
-        records,
-    })
-}
-
-/// Reads a payload.
-pub(crate) fn read_changes(alloc: Global, b: &[u8], format: Format) -> Result<Changes, RowError>
-    ensures spelled { IfOk result (λ c. b.now ≡ spell_payload_in format (changes_of c)) }
-    ensures fits { IfOk result (λ c. IsPayloadIn format (changes_of c)) }
-    ensures room { IfOk result (λ c. All HasRoom c.rows.items) }
-    ensures fault { IfErr result (AtPayload format (record { place = 0; rest = b.now })) }
-{
-    let mut r = Reader::new(b);
-    changes_in(alloc, &mut r, format)
-}
-
-fn remove_rows(rows: &mut Rows, ids: &[ItemId])
-    ensures rows { map row_value rows.new.rows ≡ without_rows ids.now (map row_value rows.old.rows) }
-    ensures next { rows.new.next ≡ rows.old.next }
-{
-    for id in ids {
-        rows.remove_row(*id);
-    }
-}
-
-fn add_rows(rows: &mut Rows, more: Vec<Row>) -> Result<(), OutOfMemory>
-    requires { All HasRoom more.items }
-    ensures rows { OnOk result (map row_value rows.new.rows ≡ with_rows (map row_value more.items) (map row_value rows.old.rows)) }
-    ensures next { OnOk result (rows.new.next ≡ rows.old.next) }
-{
-    // They stand in order of id.
-    let _ = rows.as_slice();
-    for row in more {
-        rows.put_row(row)?;
-    }
-    Ok(())
-}
-
-/// Takes the records with the keys out, if they are there.
-pub(crate) fn remove_records(records: &mut AuxRecords, keys: &[Blob])
-    ensures { records.new ≡ without_records keys.now records.old }
-{
-    for key in keys {
-        records.remove(key.as_slice());
-    }
-}
-
-fn copy_of(aux: &AuxRecord) -> Result<AuxRecord, OutOfMemory>
-    ensures { IfOk result (λ r. r ≡ aux.now) }
-{
-    Ok(AuxRecord {
-        key: aux.key.copy()?,
-        value: aux.value.copy()?,
-    })
-}
-
-/// Puts copies of the records in place of those with their keys, or adds them.
-pub(crate) fn add_records(records: &mut AuxRecords, more: &[AuxRecord]) -> Result<(), OutOfMemory>
-    requires { All IsShort more.now }
-    ensures { OnOk result (records.new ≡ with_records more.now records.old) }
-{
-    for aux in more {
-        let copy = copy_of(aux)?;
-        records.put(copy)?;
-    }
-    Ok(())
-}
-
-fn apply(contents: &mut Contents, changes: Changes) -> Result<(), OutOfMemory>
-    requires rows { All HasRoom changes.rows.items }
-    requires records { All IsShort changes.records }
-    ensures { OnOk result (image_of contents.new ≡ after_payload (image_of contents.old) (changes_of changes)) }
-{
-    let Changes {
-        header,
-        removed,
-        rows,
-        removed_keys,
-        records,
-    } = changes;
-    remove_rows(&mut contents.rows, &removed);
-    add_rows(&mut contents.rows, rows)?;
-    remove_records(&mut contents.records, &removed_keys);
-    add_records(&mut contents.records, records.as_slice())?;
-    contents.rows.set_next(header.next);
-    contents.last = header.last;
-    contents.count = header.count;
-    contents.clock = header.clock;
-    Ok(())
-}
-
-/// Applies a payload of the format: removals come first. Short or BadField exactly where the bytes spell none, at the first
-/// field that lacks bytes or is not spelled, and then nothing changes. Without memory the contents are lost.
-pub fn apply_payload(
-    alloc: Global,
-    contents: &mut Contents,
-    b: &[u8],
-    format: Format,
-) -> Result<(), RowError>
-    ensures ok { OnOk result (IsAfterIn format b.now (image_of contents.old) (image_of contents.new)) }
-    ensures fault { IfErr result (AtPayload format (record { place = 0; rest = b.now })) }
-    ensures none { IfErr result (λ e. IsTold e → (p : Payload) → IsPayloadIn format p → b.now ≡ spell_payload_in format p → ⊥) }
-    ensures unchanged { IfErr result (λ e. IsTold e → contents.new ≡ contents.old) }
-{
-    let changes = read_changes(alloc, b, format)?;
-    Ok(apply(contents, changes)?)
 }

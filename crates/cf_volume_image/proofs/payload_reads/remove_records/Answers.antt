@@ -3,7 +3,7 @@ use Rattle.cf_model.specs.Formats.{without_record}
 use Rattle.cf_volume_image.specs.States.{without_records}
 use Rattle.cf_volume_image.proofs.Loops.{drop_at, drop_end}
 use Rattle.cf_volume_image.proofs.PayloadSteps.{no_records_removed, records_removed}
-use Rattle.cf_volume_image.proofs.payloads.remove_records.Goals as goal
+use Rattle.cf_volume_image.proofs.payload_reads.remove_records.Goals as goal
 
 pub loop-key-preserved : goal.loop-key-preserved
 loop-key-preserved c =

@@ -1,7 +1,7 @@
 use Rattle.std.proofs.Common.{take}
 use Rattle.cf_volume_image.specs.Drafts.{draft_image}
 use Rattle.cf_volume_image.specs.States.{TellsIn}
-use Rattle.cf_volume_image.proofs.openings.contents_of.Given as goal
+use Rattle.cf_volume_image.proofs.openings.read_spelled.Given as goal
 
 abbrev pub invariant-loop-number : goal.invariant-loop-number
 invariant-loop-number l = TellsIn l.format l.fn.image (take l.number l.payloads) (draft_image l.draft)

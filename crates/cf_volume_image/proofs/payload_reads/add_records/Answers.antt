@@ -4,7 +4,7 @@ use Rattle.cf_model.specs.Formats.{with_records}
 use Rattle.cf_volume_image.proofs.Loops.{drop_at, drop_end}
 use Rattle.cf_volume_image.proofs.PayloadPuts.{short_copy}
 use Rattle.cf_volume_image.proofs.PayloadSteps.{record_added}
-use Rattle.cf_volume_image.proofs.payloads.add_records.Goals as goal
+use Rattle.cf_volume_image.proofs.payload_reads.add_records.Goals as goal
 
 pub put-requires : goal.put-requires
 put-requires c = short_copy c.args.more.now c.loop-aux.aux-index c.aux-item.result c.in_ok-copy.copy c.requires c.loop-aux-test.true c.aux-item.is c.in_ok-copy.ensures

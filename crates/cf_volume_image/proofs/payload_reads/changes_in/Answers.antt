@@ -3,7 +3,7 @@ use Rattle.cf_table.proofs.NoRow.{at_end}
 use Rattle.cf_table.proofs.ReadExit.{exits}
 use Rattle.cf_volume_image.specs.Contents.{read_header_of}
 use Rattle.cf_volume_image.proofs.WholeTexts.{payload_taken}
-use Rattle.cf_volume_image.proofs.payloads.changes_in.Goals as goal
+use Rattle.cf_volume_image.proofs.payload_reads.changes_in.Goals as goal
 
 pub returns-in_err-removed-clause-fault : goal.returns-in_err-removed-clause-fault
 returns-in_err-removed-clause-fault c =

@@ -7,7 +7,7 @@ use Rattle.cf_table.specs.Spelling.{HasRoom, row_value}
 use Rattle.cf_table.specs.declared.rows.Row.{Row}
 use Rattle.cf_volume_image.proofs.PayloadPuts.{first_spellable, rest_has_room}
 use Rattle.cf_volume_image.proofs.PayloadSteps.{rises_added, row_added}
-use Rattle.cf_volume_image.proofs.draft_payloads.add_unindexed.Goals as goal
+use Rattle.cf_volume_image.proofs.payload_reads.add_rows.Goals as goal
 
 pub loop-row-init : goal.loop-row-init
 loop-row-init c =

@@ -8,7 +8,7 @@ use Rattle.cf_volume_image.specs.States.{IsAfterIn, TellsIn}
 use Rattle.cf_volume_image.specs.declared.failures.ImageError.{ImageError}
 use Rattle.cf_volume_image.proofs.CauseLaws.{next_text, payload_cause, text_there}
 use Rattle.cf_volume_image.proofs.Told.{told_more}
-use Rattle.cf_volume_image.proofs.openings.contents_of.Goals as goal
+use Rattle.cf_volume_image.proofs.openings.read_spelled.Goals as goal
 
 pub loop-number-preserved : goal.loop-number-preserved
 loop-number-preserved c =

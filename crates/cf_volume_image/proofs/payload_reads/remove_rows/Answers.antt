@@ -5,7 +5,7 @@ use Rattle.cf_table.specs.Spelling.{row_value}
 use Rattle.cf_volume_image.specs.States.{without_rows}
 use Rattle.cf_volume_image.proofs.Loops.{drop_end, drop_get}
 use Rattle.cf_volume_image.proofs.PayloadSteps.{none_removed, rows_removed}
-use Rattle.cf_volume_image.proofs.draft_payloads.remove_unindexed.Goals as goal
+use Rattle.cf_volume_image.proofs.payload_reads.remove_rows.Goals as goal
 
 pub loop-id-preserved : goal.loop-id-preserved
 loop-id-preserved c =
