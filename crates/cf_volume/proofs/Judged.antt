@@ -1,5 +1,5 @@
 -- Whether a change is refused, by the tests of the program.
-use Rattle.std.proofs.Common.{◌≡◌, inl, inr, ⊎_elim, ℕ, zero, suc, ◌+◌, ◌*◌, ◌<◌, ◌≤◌, Bool, true, false, ◌||◌, ◌&&◌, cond, ltb, List, [], ◌∷◌, length, min, refl, sym, ◌∙◌, ap, subst, arith, Option, Some, None}
+use Rattle.std.proofs.Common.{◌≡◌, inl, inr, ⊎_elim, ℕ, zero, suc, ◌+◌, ◌*◌, ◌<◌, ◌≤◌, Bool, true, false, ◌||◌, ◌&&◌, not, cond, ltb, List, [], ◌∷◌, length, min, refl, sym, ◌∙◌, ap, subst, arith, Option, Some, None}
 use Rattle.std.specs.Prelude.{sum_by}
 use Rattle.std.proofs.lemmas.Bool.{cases_Bool, le-ltb, lt-ltb, true≢false}
 use Rattle.std.proofs.lemmas.Option.{same_Some}
@@ -15,7 +15,7 @@ use Rattle.cf_disk.specs.Disk.{State}
 use Rattle.cf_model.specs.Blocks.{blocks_in, blocks_used, is_full, passes_clusters, puts_into}
 use Rattle.cf_model.specs.Books.{Book, anchor_of}
 use Rattle.cf_model.specs.Changes.{lacks_numbers, may_need_room, needs_id, next_number, no_blocks, no_table, put_change, why_no_room}
-use Rattle.cf_model.specs.Numbers.{most, usn_after}
+use Rattle.cf_model.specs.Numbers.{above, most, usn_after}
 use Rattle.cf_model.specs.Effects.{changed}
 use Rattle.cf_model.specs.Images.{aux_len, image_len, is_table_full, most_image, never_longer, row_len, table_full}
 use Rattle.cf_model.specs.Items.{Item, item_of}
@@ -35,11 +35,13 @@ use Rattle.cf_ranges.specs.Positions.{IsBelow, touched}
 use Rattle.cf_table.proofs.StayingRows.{effect_is}
 use Rattle.cf_table.specs.Applied.{item_effect}
 use Rattle.cf_table.specs.Changing.{item_of_change, pin_for, stays}
-use Rattle.cf_table.specs.Means.{Means}
+use Rattle.cf_table.specs.Means.{IsLater, Means}
 use Rattle.cf_table.specs.Tables.{AreTableRows, RisesFrom, row_of}
 use Rattle.cf_table.specs.declared.rows.Row.{Row}
 use Rattle.cf_volume.proofs.Puts.{found_table}
+use Rattle.cf_volume.specs.Growth.{AddsAtMost}
 use Rattle.cf_volume.specs.Laid.{Plans}
+use Rattle.cf_volume.specs.RoomLeft.{HasRoomFor}
 use Rattle.cf_volume.specs.Waits.{IsLight, MayWait, passes}
 
 pub passes_is : (clusters : ℕ) (items : List Item) (n : ℕ) → passes_clusters clusters items n ≡ passes clusters (blocks_used items) n
@@ -110,8 +112,7 @@ never_full c items b e = ap (λ (t : Bool). cond t false (table_full items b)) e
 pub may_be_full : (c : Change) (items : List Item) (b : Book) → never_longer c ≡ false → is_table_full c items b ≡ table_full items b
 may_be_full c items b e = ap (λ (t : Bool). cond t false (table_full items b)) e
 
-module _ (s : State) (k : Known) (v : Volume) (c : Change) (row planned : Row) (blocks : List ℕ) (at : At s k v) (rises : RisesFrom 0 k.table.rows) (table : AreTableRows k.table.rows) (kind : stays c ≡ true)
-    (found : row_of k.table.rows (item_of_change c) ≡ Some row) (plan : Plans c (pin_for c k.table.rows) (next_number v) row planned blocks) where
+module _ (s : State) (k : Known) (v : Volume) (c : Change) (row : Row) (at : At s k v) (rises : RisesFrom 0 k.table.rows) (table : AreTableRows k.table.rows) (kind : stays c ≡ true) (found : row_of k.table.rows (item_of_change c) ≡ Some row) where
   pub here : (i : Item) × (item_of v.items (item_of_change c) ≡ Some i) × HoldsRow (cluster_on s.seen) v.book row i
   here = row_holds (cluster_on s.seen) v.book k.table.rows v.items (item_of_change c) row at.now.rows found
 
@@ -123,6 +124,12 @@ module _ (s : State) (k : Known) (v : Volume) (c : Change) (row planned : Row) (
 
   book_is : (put_change c v).book ≡ v.book
   book_is = stays_book c v.book kind
+
+  rise : ItemsRise 0 v.items
+  rise = items_rise (cluster_on s.seen) v.book 0 k.table.rows v.items rises at.now.rows
+
+  fits_as : FitsTable (changed (item_of_change c) step v.items) v.book → FitsTable (put_change c v).items (put_change c v).book
+  fits_as fits = subst (λ (b : Book). FitsTable (put_change c v).items b) (sym book_is) (subst (λ (l : List Item). FitsTable l v.book) (sym items_are) fits)
 
   pub image_is : (long : ℕ) → long ≡ len_now k → min long 18446744073709551615 ≡ image_len v.items v.book
   image_is long e =
@@ -136,49 +143,69 @@ module _ (s : State) (k : Known) (v : Volume) (c : Change) (row planned : Row) (
       let stored = (found_table k.table.rows (item_of_change c) row table found).stored in
       ap (len_with row) (blocks_counted row here.0 stored.here here.2.means) ∙ planned_len v.book row here.0 stored here.2.means here.2.anchor
 
-  pub new_means : Means planned (step here.0)
-  new_means = plan.means here.0 here.2.means
+  -- a change that makes the row longer by what the image has room for
+  pub short_table : IsLater (usn_after k.epoch k.place) row → (blocks more size : ℕ) → length (puts_into v.items c) ≡ blocks → AddsAtMost c blocks more → size ≡ len_now k → min size 18446744073709551615 + more ≤ most_image
+      → is_table_full c (put_change c v).items (put_change c v).book ≡ false
+  short_table later blocks more size puts adds size_is short = elim (cases_Bool (never_longer c)) [
+    | inl e ↦ never_full c (put_change c v).items (put_change c v).book e
+    | inr e ↦ may_be_full c (put_change c v).items (put_change c v).book e ∙ fits_of (put_change c v).items (put_change c v).book fits
+  ]
+    where
+      after_push : above (next_number v) (anchor_of v.book here.0.id) ≡ true
+      after_push = (λ j. above (usn_after (sym at.now.epoch j) (sym at.now.place j)) (sym here.2.anchor j)) ∙ later.anchor
 
-  pub new_is : len_with planned (touched planned.here 0 (blocks_in (length (step here.0).held))) ≡ row_len v.book (step here.0)
-  new_is = ap (len_with planned) (blocks_counted planned (step here.0) plan.stored.here new_means)
-      ∙ planned_len v.book planned (step here.0) plan.stored new_means
-      (plan.rest.anchor ∙ here.2.anchor ∙ ap (λ (n : ItemId). anchor_of v.book n) (sym (same_item c (pin_for c k.table.rows) (next_number v) here.0)))
+      fits : FitsTable (put_change c v).items (put_change c v).book
+      fits =
+          let long = adds here.0 (pin_for c k.table.rows) (next_number v) v.book after_push (sym (ap length (stays_puts c v.items kind ∙ ap (λ (o : Option Item). puts_in c (part (λ i. i.held) [] o)) here.1)) ∙ puts) in
+          let image = image_is size size_is in
+          fits_as (change_fits v.items v.book (item_of_change c) step here.0 (row_len v.book here.0) (row_len v.book (step here.0)) (min size 18446744073709551615) rise here.1 at.now.fits image refl refl
+          (le-ltb (most_image + row_len v.book here.0) (min size 18446744073709551615 + row_len v.book (step here.0)) (omega (arith, long, short))))
 
-  module _ (long : Bool) (image old new : ℕ) (image_len_is : image ≡ image_len v.items v.book) (old_len_is : old ≡ row_len v.book here.0) (new_len_is : new ≡ row_len v.book (step here.0)) (long_is : long ≡ ltb (most_image + old) (image + new)) where
-    rise : ItemsRise 0 v.items
-    rise = items_rise (cluster_on s.seen) v.book 0 k.table.rows v.items rises at.now.rows
+  module _ (planned : Row) (blocks : List ℕ) (plan : Plans c (pin_for c k.table.rows) (next_number v) row planned blocks) where
+    pub new_means : Means planned (step here.0)
+    new_means = plan.means here.0 here.2.means
 
-    pub stay_fits : long ≡ false → FitsTable (put_change c v).items (put_change c v).book
-    stay_fits e = subst (λ (b : Book). FitsTable (put_change c v).items b) (sym book_is) (subst (λ (l : List Item). FitsTable l v.book) (sym items_are)
-        (change_fits v.items v.book (item_of_change c) step here.0 old new image rise here.1 at.now.fits image_len_is old_len_is new_len_is (sym long_is ∙ e)))
+    pub new_is : len_with planned (touched planned.here 0 (blocks_in (length (step here.0).held))) ≡ row_len v.book (step here.0)
+    new_is = ap (len_with planned) (blocks_counted planned (step here.0) plan.stored.here new_means)
+        ∙ planned_len v.book planned (step here.0) plan.stored new_means
+        (plan.rest.anchor ∙ here.2.anchor ∙ ap (λ (n : ItemId). anchor_of v.book n) (sym (same_item c (pin_for c k.table.rows) (next_number v) here.0)))
 
-    stay_full : long ≡ true → table_full (put_change c v).items (put_change c v).book ≡ true
-    stay_full e = (λ j. table_full (items_are j) (book_is j)) ∙ change_full v.items v.book (item_of_change c) step here.0 old new image rise here.1 at.now.fits image_len_is old_len_is new_len_is
-        (even_changed step (item_of_change c) v.items (even_items (cluster_on s.seen) v.book k.table.rows v.items at.now.rows)
-        (λ i f. subst (λ (j : Item). length (step j).valid ≡ length (step j).held) (same_Some here.0 i (sym here.1 ∙ f)) new_means.bytes.even) 0 rise)
-        (sym long_is ∙ e)
+    module _ (long : Bool) (image old new : ℕ) (image_len_is : image ≡ image_len v.items v.book) (old_len_is : old ≡ row_len v.book here.0) (new_len_is : new ≡ row_len v.book (step here.0)) (long_is : long ≡ ltb (most_image + old) (image + new)) where
+      pub stay_fits : long ≡ false → FitsTable (put_change c v).items (put_change c v).book
+      stay_fits e = fits_as (change_fits v.items v.book (item_of_change c) step here.0 old new image rise here.1 at.now.fits image_len_is old_len_is new_len_is (sym long_is ∙ e))
 
-    -- what never makes a row longer passes the test
-    never_long : never_longer c ≡ true → long ≡ false
-    never_long e = long_is ∙ le-ltb (most_image + old) (image + new)
-        (let less = lighter c (pin_for c k.table.rows) (next_number v) v.book here.0 e in omega (arith, less, old_len_is, new_len_is, image_len_is, at.now.fits.short))
+      stay_full : long ≡ true → table_full (put_change c v).items (put_change c v).book ≡ true
+      stay_full e = (λ j. table_full (items_are j) (book_is j)) ∙ change_full v.items v.book (item_of_change c) step here.0 old new image rise here.1 at.now.fits image_len_is old_len_is new_len_is
+          (even_changed step (item_of_change c) v.items (even_items (cluster_on s.seen) v.book k.table.rows v.items at.now.rows)
+          (λ i f. subst (λ (j : Item). length (step j).valid ≡ length (step j).held) (same_Some here.0 i (sym here.1 ∙ f)) new_means.bytes.even) 0 rise)
+          (sym long_is ∙ e)
 
-    pub stay_table : is_table_full c (put_change c v).items (put_change c v).book ≡ long
-    stay_table = elim (cases_Bool (never_longer c)) [
-      | inl e ↦ never_full c (put_change c v).items (put_change c v).book e ∙ sym (never_long e)
-      | inr e ↦ may_be_full c (put_change c v).items (put_change c v).book e ∙ both long refl
-    ]
-      where
-        both : (t : Bool) → long ≡ t → table_full (put_change c v).items (put_change c v).book ≡ long
-        both true e = stay_full e ∙ sym e
-        both false e = fits_of (put_change c v).items (put_change c v).book (stay_fits e) ∙ sym e
+      -- what never makes a row longer passes the test
+      never_long : never_longer c ≡ true → long ≡ false
+      never_long e = long_is ∙ le-ltb (most_image + old) (image + new)
+          (let less = lighter c (pin_for c k.table.rows) (next_number v) v.book here.0 e in omega (arith, less, old_len_is, new_len_is, image_len_is, at.now.fits.short))
 
--- how many blocks a planned change puts
+      pub stay_table : is_table_full c (put_change c v).items (put_change c v).book ≡ long
+      stay_table = elim (cases_Bool (never_longer c)) [
+        | inl e ↦ never_full c (put_change c v).items (put_change c v).book e ∙ sym (never_long e)
+        | inr e ↦ may_be_full c (put_change c v).items (put_change c v).book e ∙ both long refl
+      ]
+        where
+          both : (t : Bool) → long ≡ t → table_full (put_change c v).items (put_change c v).book ≡ long
+          both true e = stay_full e ∙ sym e
+          both false e = fits_of (put_change c v).items (put_change c v).book (stay_fits e) ∙ sym e
+
+-- how many blocks a change puts of an item whose row is there
+pub row_puts : (s : State) (k : Known) (v : Volume) (c : Change) (row : Row) (blocks : List ℕ) → At s k v → stays c ≡ true → row_of k.table.rows (item_of_change c) ≡ Some row → ((i : Item) → Means row i → blocks ≡ puts_in c i.held)
+    → length (puts_into v.items c) ≡ length blocks
+row_puts s k v c row blocks at kind found puts =
+    let item = row_holds (cluster_on s.seen) v.book k.table.rows v.items (item_of_change c) row at.now.rows found in
+    ap length (stays_puts c v.items kind ∙ ap (λ (o : Option Item). puts_in c (part (λ i. i.held) [] o)) item.1 ∙ sym (puts item.0 item.2.means))
+
+-- so of a planned change
 pub plan_puts : (s : State) (k : Known) (v : Volume) (c : Change) (pin : Pin) (n : Usn) (row planned : Row) (blocks : List ℕ) → At s k v → stays c ≡ true → row_of k.table.rows (item_of_change c) ≡ Some row → Plans c pin n row planned blocks
     → length (puts_into v.items c) ≡ length blocks
-plan_puts s k v c pin n row planned blocks at kind found plan =
-    let item = row_holds (cluster_on s.seen) v.book k.table.rows v.items (item_of_change c) row at.now.rows found in
-    ap length (stays_puts c v.items kind ∙ ap (λ (o : Option Item). puts_in c (part (λ i. i.held) [] o)) item.1 ∙ sym (plan.puts item.0 item.2.means))
+plan_puts s k v c pin n row planned blocks at kind found plan = row_puts s k v c row blocks at kind found plan.puts
 
 -- the three refusals, in their order
 refused_as : (x t f long full : Bool) → x ≡ false → t ≡ long → f ≡ full → (cond x (Some code.Exhausted) (cond t (Some code.TableFull) (cond f (Some code.Full) None))) ≡ cond long (Some code.TableFull) (cond full (Some code.Full) None)
@@ -212,6 +239,15 @@ pub refusal_is : (c : Change) (v : Volume) (long full : Bool) → lacks_numbers 
     → why_no_room (c ∷ []) v ≡ cond long (Some code.TableFull) (cond full (Some code.Full) None)
 refusal_is c v long full a b f = refused_as (lacks_numbers v (c ∷ [])) (no_table v (c ∷ [])) (no_blocks v (c ∷ [])) long full a (or_false (is_table_full c (put_change c v).items (put_change c v).book) ∙ b) (or_false (is_full v.clusters v.items c) ∙ f)
 
+-- whether a change has room that finds a number, by the same tests
+pub room_is : (c : Change) (v : Volume) (full lacks : Bool) → lacks_numbers v (c ∷ []) ≡ false → is_table_full c (put_change c v).items (put_change c v).book ≡ full → is_full v.clusters v.items c ≡ lacks
+    → HasRoomFor (c ∷ []) v (record { places = true; table = not full; blocks = not lacks })
+room_is c v full lacks a b f = record {
+  places = ap not (sym a);
+  table = ap not (sym (or_false (is_table_full c (put_change c v).items (put_change c v).book) ∙ b));
+  blocks = ap not (sym (or_false (is_full v.clusters v.items c) ∙ f));
+}
+
 -- the refusal of a planned change, by the two tests
 
 module _ (s : State) (k : Known) (v : Volume) (c : Change) (row planned : Row) (blocks : List ℕ) (at : At s k v) (rises : RisesFrom 0 k.table.rows) (table : AreTableRows k.table.rows) (kind : stays c ≡ true)
@@ -221,13 +257,13 @@ module _ (s : State) (k : Known) (v : Volume) (c : Change) (row planned : Row) (
   numbered = subst (λ (n : Usn). Plans c (pin_for c k.table.rows) n row planned blocks) (λ i. usn_after (at.now.epoch i) (at.now.place i)) plan
 
   abbrev item : (i : Item) × (item_of v.items (item_of_change c) ≡ Some i) × HoldsRow (cluster_on s.seen) v.book row i
-  item = here s k v c row planned blocks at rises table kind found numbered
+  item = here s k v c row at rises table kind found
 
   abbrev stepped : Item
   stepped = item_effect c (pin_for c k.table.rows) (next_number v) item.0
 
   now_means : Means planned stepped
-  now_means = new_means s k v c row planned blocks at rises table kind found numbered
+  now_means = new_means s k v c row at rises table kind found planned blocks numbered
 
   abbrev old_len : ℕ
   old_len = len_with row (touched row.here 0 (blocks_in (length item.0.held)))
@@ -239,13 +275,15 @@ module _ (s : State) (k : Known) (v : Volume) (c : Change) (row planned : Row) (
   tested = test (blocks_in (length item.0.held)) (blocks_in (length stepped.held)) (below_blocks row item.0 item.2.means) (below_blocks planned stepped now_means)
 
   pub refused_fits : long ≡ false → FitsTable (put_change c v).items (put_change c v).book
-  refused_fits e = stay_fits s k v c row planned blocks at rises table kind found numbered long (min size 18446744073709551615) old_len new_len
-      (image_is s k v c row planned blocks at rises table kind found numbered size size_is) (old_is s k v c row planned blocks at rises table kind found numbered) (new_is s k v c row planned blocks at rises table kind found numbered) tested e
+  refused_fits e = stay_fits s k v c row at rises table kind found planned blocks numbered long (min size 18446744073709551615) old_len new_len
+      (image_is s k v c row at rises table kind found size size_is) (old_is s k v c row at rises table kind found) (new_is s k v c row at rises table kind found planned blocks numbered) tested e
+
+  pub table_is : is_table_full c (put_change c v).items (put_change c v).book ≡ long
+  table_is = stay_table s k v c row at rises table kind found planned blocks numbered long (min size 18446744073709551615) old_len new_len
+      (image_is s k v c row at rises table kind found size size_is) (old_is s k v c row at rises table kind found) (new_is s k v c row at rises table kind found planned blocks numbered) tested
 
   pub refused_is : k.place < most → why_no_room (c ∷ []) v ≡ cond long (Some code.TableFull) (cond (passes k.limit (how_many is_now k.uses) (length blocks)) (Some code.Full) None)
-  refused_is left = refusal_is c v long (passes k.limit (how_many is_now k.uses) (length blocks)) (numbers_left c v (needs_no_id c kind) (omega (arith, left, at.now.place)))
-      (stay_table s k v c row planned blocks at rises table kind found numbered long (min size 18446744073709551615) old_len new_len
-      (image_is s k v c row planned blocks at rises table kind found numbered size size_is) (old_is s k v c row planned blocks at rises table kind found numbered) (new_is s k v c row planned blocks at rises table kind found numbered) tested)
+  refused_is left = refusal_is c v long (passes k.limit (how_many is_now k.uses) (length blocks)) (numbers_left c v (needs_no_id c kind) (omega (arith, left, at.now.place))) table_is
       (clusters_full s k v c (length blocks) at (plan_puts s k v c (pin_for c k.table.rows) (next_number v) row planned blocks at kind found numbered))
 
 pub needs_room : (s : State) (k : Known) (v : Volume) (c : Change) (row planned : Row) (blocks : List ℕ) → At s k v → stays c ≡ true → row_of k.table.rows (item_of_change c) ≡ Some row → Plans c (pin_for c k.table.rows) (usn_after k.epoch k.place) row planned blocks

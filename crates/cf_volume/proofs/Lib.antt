@@ -41,4 +41,6 @@ pub mod BesideRoom
 pub mod BlocksAhead
 pub mod Counting
 pub mod FewBlocks
+pub mod FlagRuns
+pub mod Longer
 pub mod KeptBytes

@@ -18,3 +18,4 @@ pub mod Besides
 pub mod Written
 pub mod Waits
 pub mod Ahead
+pub mod Growth

@@ -5,4 +5,5 @@ pub(crate) mod draft_steps;
 pub(crate) mod drafts;
 pub(crate) mod lengths;
 pub(crate) mod records;
+pub(crate) mod single_changes;
 pub(crate) mod tallies;

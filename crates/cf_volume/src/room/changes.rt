@@ -1,7 +1,7 @@
 //! Whether changes have room.
 
 ghost use Rattle.std.specs.List.{list_any};
-ghost use Rattle.std.specs.Prelude.{◌≡◌, ◌&&◌, [], All, List, MatchOption, cond, not, length, Some, None, IfOk};
+ghost use Rattle.std.specs.Prelude.{◌≡◌, ◌&&◌, ◌∷◌, [], All, List, MatchOption, cond, not, length, Some, None, IfOk, IfSome};
 ghost use Rattle.cf_base.specs.declared.changes.Change.{Change};
 ghost use Rattle.cf_disk.specs.Disk.{size_of};
 ghost use Rattle.cf_volume_image.specs.RecordLists.{IsShort};
@@ -19,14 +19,17 @@ ghost use Rattle.cf_volume.specs.RoomLeft.{FitInTurn, HasBeside, HasRoomFor, Has
 ghost use Rattle.cf_volume.specs.Steady.{Steady, known_of};
 ghost use Rattle.cf_volume.specs.Tallies.{Counts};
 
+use crate::fullness::is_full;
 use crate::parts::Parts;
 use crate::room::draft_steps::tell_place;
 use crate::room::drafts::{Draft, draft_of};
 use crate::room::records::is_full_with;
+use crate::room::single_changes::{blocks_asked, fitting_row, lacks_table_after};
 use crate::room::tallies::{Tally, and_not, count_changes};
 use crate::volumes::Volume;
 use cf_base::{AuxRecord, Change, OutOfMemory, Usn};
 use cf_disk::Disk;
+use std::slice;
 
 /// The greatest place of an epoch.
 const MOST: u32 = 4_294_967_295;
@@ -124,8 +127,8 @@ fn tally_of<D: Disk>(disk: &D, parts: &Parts, list: &[Change]) -> Result<Option<
     Ok(Some(so_far))
 }
 
-// Whether changes have room that would be made in order.
-fn room_for<D: Disk>(disk: &D, parts: &Parts, list: &[Change]) -> Result<Room, OutOfMemory>
+// Whether changes have room that would be made in order, by a draft.
+fn room_in_turn<D: Disk>(disk: &D, parts: &Parts, list: &[Change]) -> Result<Room, OutOfMemory>
     requires steady { Steady (size_of (D.state disk.now)) (known_of parts.now) }
     ensures { (v : model) → At (D.state disk.now) (known_of parts.now) v → FitInTurn list.now v → IfOk result (HasRoomFor list.now v) }
 {
@@ -136,6 +139,52 @@ fn room_for<D: Disk>(disk: &D, parts: &Parts, list: &[Change]) -> Result<Room, O
             table: so_far.table,
             blocks: so_far.blocks,
         }),
+    }
+}
+
+// Whether one change has room, without a draft. None where a draft has to tell: the change makes or removes an item, names one
+// that is not there, does not fit its row, or finds no number.
+fn room_of_one<D: Disk>(
+    disk: &D,
+    parts: &Parts,
+    change: &Change,
+) -> Result<Option<Room>, OutOfMemory>
+    requires steady { Steady (size_of (D.state disk.now)) (known_of parts.now) }
+    ensures { (v : model) → At (D.state disk.now) (known_of parts.now) v → IfOk result (λ room. IfSome room (HasRoomFor (change.now ∷ []) v)) }
+{
+    match fitting_row(&parts.contents, change) {
+        None => Ok(None),
+        Some(row) => {
+            let blocks = blocks_asked(disk, parts, row, change)?;
+            let full = lacks_table_after(disk, parts, row, change, blocks)?;
+            Ok(Some(Room {
+                places: true,
+                table: !full,
+                blocks: !is_full(parts, blocks as u128),
+            }))
+        }
+    }
+}
+
+// Whether one change has room.
+fn room_alone<D: Disk>(disk: &D, parts: &Parts, change: &Change) -> Result<Room, OutOfMemory>
+    requires steady { Steady (size_of (D.state disk.now)) (known_of parts.now) }
+    ensures { (v : model) → At (D.state disk.now) (known_of parts.now) v → FitInTurn (change.now ∷ []) v → IfOk result (HasRoomFor (change.now ∷ []) v) }
+{
+    match room_of_one(disk, parts, change)? {
+        Some(room) => Ok(room),
+        None => room_in_turn(disk, parts, slice::from_ref(change)),
+    }
+}
+
+// Whether changes have room that would be made in order.
+fn room_for<D: Disk>(disk: &D, parts: &Parts, list: &[Change]) -> Result<Room, OutOfMemory>
+    requires steady { Steady (size_of (D.state disk.now)) (known_of parts.now) }
+    ensures { (v : model) → At (D.state disk.now) (known_of parts.now) v → FitInTurn list.now v → IfOk result (HasRoomFor list.now v) }
+{
+    match list {
+        [change] => room_alone(disk, parts, change),
+        _ => room_in_turn(disk, parts, list),
     }
 }
 

@@ -1,6 +1,6 @@
 //! How long the table is after a change.
 
-ghost use Rattle.std.specs.Prelude.{◌≡◌, ◌≤◌, ◌<◌, ◌+◌, ◌*◌, ◌^◌, ℕ, length, min, nat_lt};
+ghost use Rattle.std.specs.Prelude.{◌≡◌, ◌≤◌, ◌<◌, ◌+◌, ◌*◌, ◌^◌, ◌↔◌, ℕ, IsTrue, length, min, nat_lt};
 ghost use Rattle.cf_base.specs.declared.limits.TheConstants.{MOST_IMAGE_BYTES};
 ghost use Rattle.cf_volume_image.specs.Contents.{image_of};
 ghost use Rattle.cf_model.specs.Formats.{spell_image};
@@ -63,6 +63,14 @@ pub(crate) fn is_too_long(contents: &Contents, old: u128, new: u128) -> bool
     ensures { result ≡ nat_lt (MOST_IMAGE_BYTES + old) (min (length (spell_image (image_of contents.now))) 18446744073709551615 + new) }
 {
     contents.image_len() as u128 + new > MOST_IMAGE + old
+}
+
+/// Whether the image is short enough once it gets so many bytes longer.
+pub(crate) fn has_bytes(contents: &Contents, more: u128) -> bool
+    requires { more < 2 ^ 80 }
+    ensures { IsTrue result ↔ (min (length (spell_image (image_of contents.now))) 18446744073709551615 + more ≤ MOST_IMAGE_BYTES) }
+{
+    contents.image_len() as u128 + more <= MOST_IMAGE
 }
 
 /// Whether the image would be too long with one row in place of another. In both, each block with a byte has a cluster. The

@@ -58,7 +58,8 @@ fn number_at(last: Usn, steps: u64) -> Result<Usn, OutOfMemory>
     }
 }
 
-fn never_longer(change: &Change) -> bool
+/// Whether a change never makes the image longer.
+pub(crate) fn never_longer(change: &Change) -> bool
     ensures { result ≡ never_longer change.now }
 {
     matches!(

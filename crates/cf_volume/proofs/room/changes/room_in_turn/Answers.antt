@@ -6,7 +6,7 @@ use Rattle.cf_model.specs.Numbers.{passes_most}
 use Rattle.cf_volume.proofs.DraftFlags.{flag_is, none_of}
 use Rattle.cf_volume.specs.Tallies.{Counts}
 use Rattle.cf_volume.specs.declared.room.tallies.Tally.{Tally}
-use Rattle.cf_volume.proofs.room.changes.room_for.Goals as goal
+use Rattle.cf_volume.proofs.room.changes.room_in_turn.Goals as goal
 
 pub returns-in-None : goal.returns-in-None
 returns-in-None g c = λ v at fits. absurd (subst (λ (o : Option Tally). MatchOption o ⊥ (λ t. Counts c.args.parts.now.contents c.args.parts.now.limit t [] c.args.list.now v)) c.in-None.is (c.in_ok-tally_of.ensures v at fits))
