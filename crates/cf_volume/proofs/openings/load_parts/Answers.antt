@@ -9,7 +9,7 @@ use Rattle.cf_model.specs.Numbers.{most}
 use Rattle.cf_volume_points.specs.At.{At}
 use Rattle.cf_volume_points.specs.Known.{Known}
 use Rattle.cf_volume_points.specs.Standing.{clusters_for, opened}
-use Rattle.cf_volume.proofs.OpenedFrom.{opened_from, refused_as_one}
+use Rattle.cf_volume.proofs.OpenedFrom.{opened_from, refused_as_one, steady_opened}
 use Rattle.cf_volume.proofs.Stopped.{handed_on, refused_as}
 use Rattle.cf_volume.specs.Calls.{IsRefused}
 use Rattle.cf_disk.specs.Disk.{capped}
@@ -56,3 +56,6 @@ returns-in_err-found-clause-unwritten g c =
 pub returns-clause-written : goal.returns-clause-written
 returns-clause-written g c = λ x stands.
     subst (λ (k : Known). (g.D.Disk.state c.load.new.disk).written ≡ capped ((g.D.Disk.state c.args.disk.now).written + opening_bytes x (image_of (contents_in k)))) (sym c.parts_of.ensures.known) (c.in_ok-found.ensures.written x stands)
+
+pub returns-clause-steady : goal.returns-clause-steady
+returns-clause-steady g c = steady_opened _ _ c.in_ok-found.found _ c.load.ensures.same_size c.parts_of.ensures.known c.in_ok-found.ensures.sound c.in_ok-found.ensures.later c.in_ok-found.ensures.usable
