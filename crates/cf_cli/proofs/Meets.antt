@@ -11,7 +11,7 @@ use Rattle.clap.specs.Lexer.{long_of, short_of}
 use Rattle.clap.proofs.OnLiterals.{clap_on_literals}
 use Rattle.clap.specs.Faults.{is_simple_and_free}
 use Rattle.clap.specs.Simple.{is_simple, subcommand_of}
-use Rattle.cf_script.specs.Words.{IsNumber}
+use Rattle.cf_script_words.specs.Words.{IsNumber}
 use Rattle.cf_cli.specs.Accounts.{AreParsed, AreTaken, IsAlone, IsMet, Names, account, name_of}
 use Rattle.cf_cli.specs.declared.commands.Command.{Command}
 use Rattle.cf_cli.specs.declared.commands.Command.TheVariants.{Check, Filter, Gen, Image, Migrate, Replay, Scrub, State}

@@ -4,8 +4,8 @@ use Rattle.std.specs.Prelude.{if◌then◌else◌, codes, Option, Some, None}
 use Rattle.std.specs.Str.{bytes_eq}
 use Rattle.clap.specs.Walk.{Row, Text}
 use Rattle.clap.specs.Simple.{subcommand_of}
-use Rattle.cf_script.proofs.NumberMeans.{number_once}
-use Rattle.cf_script.specs.Words.{IsNumber}
+use Rattle.cf_script_words.proofs.NumberMeans.{number_once}
+use Rattle.cf_script_words.specs.Words.{IsNumber}
 use Rattle.cf_cli.specs.Accounts.{HasNumber, IsMet, Names, account, name_of}
 use Rattle.cf_cli.specs.declared.commands.Command.{Command}
 use Rattle.cf_cli.specs.declared.commands.Command.TheVariants.{Check, Filter, Gen, Image, Migrate, Replay, Scrub, State}

@@ -6,7 +6,7 @@ use Rattle.clap.proofs.WalkLemmas.{first_value-rows}
 use Rattle.clap.specs.Matches.{first_value}
 use Rattle.clap.specs.Walk.{Row, Text, first_of, rows_of}
 use Rattle.clap.specs.declared.parser.matches.Found.{Found}
-use Rattle.cf_script.specs.Words.{IsNumber}
+use Rattle.cf_script_words.specs.Words.{IsNumber}
 use Rattle.cf_cli.specs.Accounts.{HasNumber, IsAlone, IsMet, name_of}
 use Rattle.cf_cli.specs.declared.commands.Command.{Command}
 use Rattle.cf_cli.specs.declared.commands.Command.TheVariants.{Check, Filter, Gen, Image, Migrate, Replay, Scrub, State}

@@ -12,7 +12,7 @@ ghost use Rattle.cf_cli.specs.declared.commands.Command.TheVariants as meant;
 ghost use Rattle.cf_cli.specs.declared.commands.WordsError.TheVariants as fails;
 
 use crate::command_line::account;
-use cf_script::number;
+use cf_script_words::number;
 use clap::error::ErrorKind;
 use clap::{ArgMatches, Error};
 use std::alloc::{AllocError, Global};

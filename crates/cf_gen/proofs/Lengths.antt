@@ -10,7 +10,7 @@ use Rattle.hex.proofs.HexLemmas.{length-encode_with}
 use Rattle.cf_base.specs.declared.ids.Key.{Key}
 use Rattle.cf_base.specs.declared.policies.Mode.TheVariants as mode
 use Rattle.cf_script.specs.Fits.{KeyFits}
-use Rattle.cf_script.specs.Printed.{key_text, line_of, spaced}
+use Rattle.cf_script_words.specs.Texts.{key_text, line_of, spaced}
 use Rattle.cf_script.specs.Script.{IsScript}
 use Rattle.cf_gen.specs.declared.generators.Generator.{Generator}
 use Rattle.cf_gen.specs.declared.lines.Line.{Line}

@@ -9,21 +9,21 @@ use Rattle.std.proofs.lemmas.Str.{IsUtf8-append}
 use Rattle.hex.specs.Hex.{IsBytes, encode_lower}
 use Rattle.cf_base.specs.declared.events.Event.{Event}
 use Rattle.cf_base.specs.declared.policies.Mode.TheVariants as mode
-use Rattle.cf_script.specs.declared.commands.Command.TheVariants as command
-use Rattle.cf_script.specs.declared.commands.BareCommand.TheVariants as bare
-use Rattle.cf_script.specs.declared.commands.PathCommand.TheVariants as on_path
-use Rattle.cf_script.specs.declared.commands.WordCommand.TheVariants as on_word
-use Rattle.cf_script.specs.declared.commands.TwoWordCommand.TheVariants as on_two
-use Rattle.cf_script.specs.declared.commands.ThreeWordCommand.TheVariants as on_three
-use Rattle.cf_script.specs.declared.commands.OtherCommand.TheVariants as other
-use Rattle.cf_script.specs.declared.commands.PeerCommand.TheVariants as peer_word
-use Rattle.cf_script.specs.Words.{IsData, IsPath, escape_byte, escaped}
+use Rattle.cf_script_words.specs.declared.commands.Command.TheVariants as command
+use Rattle.cf_script_words.specs.declared.commands.BareCommand.TheVariants as bare
+use Rattle.cf_script_words.specs.declared.commands.PathCommand.TheVariants as on_path
+use Rattle.cf_script_words.specs.declared.commands.WordCommand.TheVariants as on_word
+use Rattle.cf_script_words.specs.declared.commands.TwoWordCommand.TheVariants as on_two
+use Rattle.cf_script_words.specs.declared.commands.ThreeWordCommand.TheVariants as on_three
+use Rattle.cf_script_words.specs.declared.commands.OtherCommand.TheVariants as other
+use Rattle.cf_script_words.specs.declared.commands.PeerCommand.TheVariants as peer_word
+use Rattle.cf_script_words.specs.Words.{IsData, IsPath, escape_byte, escaped}
 use Rattle.cf_script.specs.Forms.{AreWords}
 use Rattle.cf_script.specs.Fits.{KeyFits}
-use Rattle.cf_script.specs.Printed.{line_of}
+use Rattle.cf_script_words.specs.Texts.{line_of}
 use Rattle.cf_script.specs.Script.{AreEvents, event_lines, lines_of}
-use Rattle.cf_script.proofs.PathMeans.{code_cases}
-use Rattle.cf_script.proofs.WordTexts.{AreAllWords, IsWord, data_word, fixed, is_word_byte, number_word, pair_word}
+use Rattle.cf_script_words.proofs.PathMeans.{code_cases}
+use Rattle.cf_script_words.proofs.WordTexts.{AreAllWords, IsWord, data_word, fixed, is_word_byte, number_word, pair_word}
 use Rattle.cf_script.proofs.LineTexts.{first_line, line_counts, line_spells}
 use Rattle.cf_gen.specs.declared.lines.Line.{Line}
 use Rattle.cf_gen.specs.declared.lines.Line.TheVariants.{Close, Crash, Flush, Open, Put, Read, Restart, Size, Sync, Write}

@@ -9,7 +9,7 @@ use Rattle.cf_base.specs.declared.events.PeerEvent.TheVariants as peer
 use Rattle.cf_base.specs.declared.events.EngineEvent.TheVariants as engine
 use Rattle.cf_base.specs.declared.events.Event.{Event}
 use Rattle.cf_base.specs.declared.events.Event.TheVariants as event
-use Rattle.cf_script.specs.Printed.{key_text, line_of}
+use Rattle.cf_script_words.specs.Texts.{key_text, line_of}
 use Rattle.cf_gen.specs.declared.lines.Line.{Line}
 use Rattle.cf_gen.specs.declared.lines.Line.TheVariants.{Close, Crash, Flush, Open, Put, Read, Restart, Size, Sync, Write}
 

@@ -10,7 +10,7 @@ use Rattle.cf_pair_events.specs.declared.events.PairEvent.TheVariants as pair
 use Rattle.cf_pair_model.specs.declared.devices.Device.{Device}
 use Rattle.cf_pair_script.specs.PairScript.{SpellsOf}
 use Rattle.cf_script.specs.Script as script
-use Rattle.cf_script.specs.Words.{Reads}
+use Rattle.cf_script_words.specs.Words.{Reads}
 
 -- an event of one device
 

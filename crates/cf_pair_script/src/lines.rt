@@ -2,7 +2,7 @@
 
 ghost use Rattle.std.specs.Prelude.{◌≡◌, IfOk};
 ghost use Rattle.cf_pair_script.specs.PairScript.{Spells, SpellsOf, SpellsShared, named, peer_of};
-ghost use Rattle.cf_script.specs.Words.{Reads};
+ghost use Rattle.cf_script_words.specs.Words.{Reads};
 
 use cf_base::{Event, Mode, OutOfMemory, PeerEvent};
 use cf_pair_events::{PairEvent, is_of_device};

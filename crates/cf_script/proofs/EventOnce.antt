@@ -4,32 +4,34 @@ use Rattle.cf_base.specs.declared.ids.Key.{Key}
 use Rattle.cf_base.specs.declared.operations.NewItem.{NewItem}
 use Rattle.cf_base.specs.declared.operations.Operation.{Operation}
 use Rattle.cf_base.specs.declared.events.Event.{Event}
-use Rattle.cf_script.specs.declared.commands.Command.{Command}
-use Rattle.cf_script.specs.declared.commands.Command.TheVariants as command
-use Rattle.cf_script.specs.declared.commands.BareCommand.{BareCommand}
-use Rattle.cf_script.specs.declared.commands.PathCommand.{PathCommand}
-use Rattle.cf_script.specs.declared.commands.NumberCommand.{NumberCommand}
-use Rattle.cf_script.specs.declared.commands.WordCommand.{WordCommand}
-use Rattle.cf_script.specs.declared.commands.WordCommand.TheVariants as on_word
-use Rattle.cf_script.specs.declared.commands.TwoWordCommand.{TwoWordCommand}
-use Rattle.cf_script.specs.declared.commands.TwoWordCommand.TheVariants as on_two
-use Rattle.cf_script.specs.declared.commands.ThreeWordCommand.{ThreeWordCommand}
-use Rattle.cf_script.specs.declared.commands.ThreeWordCommand.TheVariants as on_three
-use Rattle.cf_script.specs.declared.commands.LongCommand.{LongCommand}
-use Rattle.cf_script.specs.declared.commands.LongCommand.TheVariants as long
-use Rattle.cf_script.specs.declared.commands.OtherCommand.{OtherCommand}
-use Rattle.cf_script.specs.declared.commands.OtherCommand.TheVariants as other
-use Rattle.cf_script.specs.declared.commands.PeerCommand.{PeerCommand}
-use Rattle.cf_script.specs.declared.commands.PeerCommand.TheVariants as peer
-use Rattle.cf_script.specs.declared.commands.OperationCommand.{OperationCommand}
-use Rattle.cf_script.specs.declared.commands.OperationCommand.TheVariants as operation
-use Rattle.cf_script.specs.Words.{IsNumber, IsPositive, IsPath, escape_byte}
-use Rattle.cf_script.specs.Forms.{IsBareLine, IsPathLine, IsNumberLine, IsClose, IsCancel, IsTick, IsReadLine, IsGet, IsWrite, IsSize, IsRename, IsPinLine, IsDehydrate, IsRanges, IsPolicyLine, IsKeep, IsCrash, IsLink, IsPeerWord, IsPeerPair, IsPeerEvent, IsPeer, IsPlace, IsPlaceDir, IsConvert, IsUpdate, IsMark, IsEntryName, IsEntryRest, AreFields, AreEntries, IsOperation, IsDone, IsDo, IsPlanned, IsPlan, Follows, escape_name_byte, fields_of, IsWordLine, IsTwoWordLine, IsThreeWordLine, IsLongLine, IsOtherLine}
-use Rattle.cf_script.proofs.NumberMeans.{number_once}
-use Rattle.cf_script.proofs.DataMeans.{plain_once, data_once}
-use Rattle.cf_script.proofs.PathMeans.{written_once, paths_apart, names_apart}
-use Rattle.cf_script.proofs.KeyOnce.{key_once, usn_once, key_of_once}
-use Rattle.cf_script.proofs.FixedWords.{peer_once, operation_once, pin_once, reach_once, class_once, hydration_once, population_once, yes_once, good_once, link_once, kept_once, kind_once, in_sync_once, modifiers_once}
+use Rattle.cf_script_words.specs.declared.commands.Command.{Command}
+use Rattle.cf_script_words.specs.declared.commands.Command.TheVariants as command
+use Rattle.cf_script_words.specs.declared.commands.BareCommand.{BareCommand}
+use Rattle.cf_script_words.specs.declared.commands.PathCommand.{PathCommand}
+use Rattle.cf_script_words.specs.declared.commands.NumberCommand.{NumberCommand}
+use Rattle.cf_script_words.specs.declared.commands.WordCommand.{WordCommand}
+use Rattle.cf_script_words.specs.declared.commands.WordCommand.TheVariants as on_word
+use Rattle.cf_script_words.specs.declared.commands.TwoWordCommand.{TwoWordCommand}
+use Rattle.cf_script_words.specs.declared.commands.TwoWordCommand.TheVariants as on_two
+use Rattle.cf_script_words.specs.declared.commands.ThreeWordCommand.{ThreeWordCommand}
+use Rattle.cf_script_words.specs.declared.commands.ThreeWordCommand.TheVariants as on_three
+use Rattle.cf_script_words.specs.declared.commands.LongCommand.{LongCommand}
+use Rattle.cf_script_words.specs.declared.commands.LongCommand.TheVariants as long
+use Rattle.cf_script_words.specs.declared.commands.OtherCommand.{OtherCommand}
+use Rattle.cf_script_words.specs.declared.commands.OtherCommand.TheVariants as other
+use Rattle.cf_script_words.specs.declared.commands.PeerCommand.{PeerCommand}
+use Rattle.cf_script_words.specs.declared.commands.PeerCommand.TheVariants as peer
+use Rattle.cf_script_words.specs.declared.commands.OperationCommand.{OperationCommand}
+use Rattle.cf_script_words.specs.declared.commands.OperationCommand.TheVariants as operation
+use Rattle.cf_script_words.specs.Words.{IsNumber, IsPositive, IsPath, escape_byte}
+use Rattle.cf_script.specs.Forms.{IsBareLine, IsPathLine, IsNumberLine, IsClose, IsCancel, IsTick, IsReadLine, IsGet, IsWrite, IsSize, IsRename, IsPinLine, IsDehydrate, IsRanges, IsPolicyLine, IsKeep, IsCrash, IsLink, IsPeerWord, IsPeerPair, IsPeerEvent, IsPeer, IsPlace, IsPlaceDir, IsConvert, IsUpdate, IsMark, IsOperation, IsDone, IsDo, IsPlanned, IsPlan, Follows, IsWordLine, IsTwoWordLine, IsThreeWordLine, IsLongLine, IsOtherLine}
+use Rattle.cf_script_words.specs.Entries.{IsEntryName, IsEntryRest, AreFields, AreEntries, escape_name_byte, fields_of}
+use Rattle.cf_script_words.proofs.NumberMeans.{number_once}
+use Rattle.cf_script_words.proofs.DataMeans.{plain_once, data_once}
+use Rattle.cf_script_words.proofs.PathMeans.{written_once, paths_apart, names_apart}
+use Rattle.cf_script_words.proofs.KeyOnce.{key_once, usn_once}
+use Rattle.cf_script.proofs.PlanKeys.{key_of_once}
+use Rattle.cf_script_words.proofs.FixedWords.{peer_once, operation_once, pin_once, reach_once, class_once, hydration_once, population_once, yes_once, good_once, link_once, kept_once, kind_once, in_sync_once, modifiers_once}
 
 path_once : (w p q : List ℕ) → IsPath w p → IsPath w q → p ≡ q
 path_once w p q a b = written_once escape_byte paths_apart p q (sym a.2 ∙ b.2)

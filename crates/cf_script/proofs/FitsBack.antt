@@ -17,34 +17,35 @@ use Rattle.cf_base.specs.declared.events.EngineEvent.{EngineEvent}
 use Rattle.cf_base.specs.declared.events.ProviderEvent.{ProviderEvent}
 use Rattle.cf_base.specs.declared.events.Event.{Event}
 use Rattle.cf_base.specs.declared.events.Event.TheVariants as event
-use Rattle.cf_script.specs.declared.commands.Command.{Command}
-use Rattle.cf_script.specs.declared.commands.Command.TheVariants as command
-use Rattle.cf_script.specs.declared.commands.BareCommand.TheVariants as bare
-use Rattle.cf_script.specs.declared.commands.PathCommand.TheVariants as on_path
-use Rattle.cf_script.specs.declared.commands.NumberCommand.TheVariants as on_number
-use Rattle.cf_script.specs.declared.commands.PeerCommand.TheVariants as peer_word
-use Rattle.cf_script.specs.declared.commands.OperationCommand.{OperationCommand}
-use Rattle.cf_script.specs.declared.commands.OperationCommand.TheVariants as operation_word
-use Rattle.cf_script.specs.Words.{IsKey, IsData, IsPath, written, escape_byte}
-use Rattle.cf_script.specs.Names.{is_foreign, is_for_engine, is_for_provider}
+use Rattle.cf_script_words.specs.declared.commands.Command.{Command}
+use Rattle.cf_script_words.specs.declared.commands.Command.TheVariants as command
+use Rattle.cf_script_words.specs.declared.commands.BareCommand.TheVariants as bare
+use Rattle.cf_script_words.specs.declared.commands.PathCommand.TheVariants as on_path
+use Rattle.cf_script_words.specs.declared.commands.NumberCommand.TheVariants as on_number
+use Rattle.cf_script_words.specs.declared.commands.PeerCommand.TheVariants as peer_word
+use Rattle.cf_script_words.specs.declared.commands.OperationCommand.{OperationCommand}
+use Rattle.cf_script_words.specs.declared.commands.OperationCommand.TheVariants as operation_word
+use Rattle.cf_script_words.specs.Words.{IsKey, IsData, IsPath, written, escape_byte}
+use Rattle.cf_script.specs.Modes.{is_foreign, is_for_engine, is_for_provider}
 use Rattle.std.specs.Prelude.{◌==◌, ◌&&◌, not, nat_le, replicate, cond}
 use Rattle.std.specs.List.{slice_split, onto_first}
 use Rattle.std.proofs.lemmas.List.Folds.{list_all-append}
-use Rattle.cf_script.specs.declared.commands.BareCommand.{BareCommand}
-use Rattle.cf_script.specs.declared.commands.PathCommand.{PathCommand}
-use Rattle.cf_script.specs.declared.commands.NumberCommand.{NumberCommand}
-use Rattle.cf_script.specs.declared.commands.WordCommand.TheVariants as on_word
-use Rattle.cf_script.specs.declared.commands.TwoWordCommand.TheVariants as on_two
-use Rattle.cf_script.specs.declared.commands.ThreeWordCommand.TheVariants as on_three
-use Rattle.cf_script.specs.declared.commands.LongCommand.TheVariants as long
-use Rattle.cf_script.specs.declared.commands.OtherCommand.TheVariants as other
-use Rattle.cf_script.specs.declared.commands.PeerCommand.{PeerCommand}
-use Rattle.cf_script.specs.Forms.{Follows, AreWords, IsBareLine, IsPathLine, IsNumberLine, IsPeerWord, IsPeerPair, IsPeerEvent, IsEntryRest, AreFields, AreEntries, IsOperation, IsKeyOf, escape_name_byte, fields_of, kept}
+use Rattle.cf_script_words.specs.declared.commands.BareCommand.{BareCommand}
+use Rattle.cf_script_words.specs.declared.commands.PathCommand.{PathCommand}
+use Rattle.cf_script_words.specs.declared.commands.NumberCommand.{NumberCommand}
+use Rattle.cf_script_words.specs.declared.commands.WordCommand.TheVariants as on_word
+use Rattle.cf_script_words.specs.declared.commands.TwoWordCommand.TheVariants as on_two
+use Rattle.cf_script_words.specs.declared.commands.ThreeWordCommand.TheVariants as on_three
+use Rattle.cf_script_words.specs.declared.commands.LongCommand.TheVariants as long
+use Rattle.cf_script_words.specs.declared.commands.OtherCommand.TheVariants as other
+use Rattle.cf_script_words.specs.declared.commands.PeerCommand.{PeerCommand}
+use Rattle.cf_script.specs.Forms.{Follows, AreWords, IsBareLine, IsPathLine, IsNumberLine, IsPeerWord, IsPeerPair, IsPeerEvent, IsOperation, IsKeyOf, kept}
+use Rattle.cf_script_words.specs.Entries.{IsEntryRest, AreFields, AreEntries, escape_name_byte, fields_of}
 use Rattle.cf_script.specs.Script.{AreEvents, IsScript, Spells, event_lines, is_plain, lines_of, words_of}
 use Rattle.cf_script.specs.Fits.{is_of, ItemFits, ItemsFit, KeyFits, PathFits, CallFits, ChoiceFits, DeviceFits, PeerFits, EngineFits, OperationFits, PlanKeyFits, ProviderFits, CanSpell}
 use Rattle.cf_script.specs.Printed.{key_of}
-use Rattle.cf_script.proofs.PathMeans.{code_cases, name_code}
-use Rattle.cf_script.proofs.WordTexts.{and_parts}
+use Rattle.cf_script_words.proofs.PathMeans.{code_cases, name_code}
+use Rattle.cf_script_words.proofs.WordTexts.{and_parts}
 
 abbrev AllPlain : List (List ℕ) → Type 0
 AllPlain [] = Unit {0}

@@ -15,29 +15,31 @@ use Rattle.hex.specs.Hex.{IsBytes}
 use Rattle.cf_base.specs.declared.operations.NewItem.{NewItem}
 use Rattle.cf_base.specs.declared.events.Event.{Event}
 use Rattle.cf_base.specs.declared.policies.Mode.{Mode}
-use Rattle.cf_script.specs.declared.commands.Command.{Command}
-use Rattle.cf_script.specs.declared.commands.Command.TheVariants as command
-use Rattle.cf_script.specs.declared.commands.BareCommand.TheVariants as bare
-use Rattle.cf_script.specs.declared.commands.PathCommand.TheVariants as on_path
-use Rattle.cf_script.specs.declared.commands.NumberCommand.TheVariants as on_number
-use Rattle.cf_script.specs.declared.commands.WordCommand.TheVariants as on_word
-use Rattle.cf_script.specs.declared.commands.TwoWordCommand.TheVariants as on_two
-use Rattle.cf_script.specs.declared.commands.ThreeWordCommand.TheVariants as on_three
-use Rattle.cf_script.specs.declared.commands.LongCommand.TheVariants as long
-use Rattle.cf_script.specs.declared.commands.OtherCommand.TheVariants as other
-use Rattle.cf_script.specs.Words.{written, escape_byte, escaped, plain_text}
-use Rattle.cf_script.specs.Names.{command_name}
-use Rattle.cf_script.specs.Forms.{escape_name_byte, escaped_name, fields_of, AreWords}
+use Rattle.cf_script_words.specs.declared.commands.Command.{Command}
+use Rattle.cf_script_words.specs.declared.commands.Command.TheVariants as command
+use Rattle.cf_script_words.specs.declared.commands.BareCommand.TheVariants as bare
+use Rattle.cf_script_words.specs.declared.commands.PathCommand.TheVariants as on_path
+use Rattle.cf_script_words.specs.declared.commands.NumberCommand.TheVariants as on_number
+use Rattle.cf_script_words.specs.declared.commands.WordCommand.TheVariants as on_word
+use Rattle.cf_script_words.specs.declared.commands.TwoWordCommand.TheVariants as on_two
+use Rattle.cf_script_words.specs.declared.commands.ThreeWordCommand.TheVariants as on_three
+use Rattle.cf_script_words.specs.declared.commands.LongCommand.TheVariants as long
+use Rattle.cf_script_words.specs.declared.commands.OtherCommand.TheVariants as other
+use Rattle.cf_script_words.specs.Words.{written, escape_byte, escaped, plain_text}
+use Rattle.cf_script_words.specs.Names.{command_name}
+use Rattle.cf_script_words.specs.Entries.{escape_name_byte, escaped_name, fields_of}
+use Rattle.cf_script.specs.Forms.{AreWords}
 use Rattle.cf_script.specs.Script.{is_plain, words_of, lines_of, is_event_line, Spells}
 use Rattle.cf_script.specs.Fits.{PathFits, ItemFits}
-use Rattle.cf_script.specs.Printed.{spaced, line_of, entry_text}
-use Rattle.cf_script.proofs.PathMeans.{code_cases, name_code}
-use Rattle.cf_script.proofs.WordTexts.{is_word_byte, is_word, IsWord, AreAllWords, IsPlainWay, utf8_written, and_parts, all_more, fixed, number_word, data_word, data_all}
+use Rattle.cf_script_words.specs.Texts.{spaced, line_of}
+use Rattle.cf_script_words.specs.Entries.{entry_text}
+use Rattle.cf_script_words.proofs.PathMeans.{code_cases, name_code}
+use Rattle.cf_script_words.proofs.WordTexts.{is_word_byte, is_word, IsWord, AreAllWords, IsPlainWay, utf8_written, and_parts, all_more, fixed, number_word, data_word, data_all}
 use Rattle.hex.specs.Hex.{is_hex_digit}
-use Rattle.cf_script.specs.Forms.{IsEntry, AreFields, AreEntries}
+use Rattle.cf_script_words.specs.Entries.{IsEntry, AreFields, AreEntries}
 use Rattle.cf_script.specs.Fits.{ItemsFit}
-use Rattle.cf_script.specs.Printed.{entry_words}
-use Rattle.cf_script.proofs.NumberMeans.{is_digit, decimal_digits}
+use Rattle.cf_script_words.specs.Entries.{entry_words}
+use Rattle.cf_script_words.proofs.NumberMeans.{is_digit, decimal_digits}
 
 -- paths and names
 high_path : (b : ℕ) → 128 ≤ b → escape_byte b ≡ b ∷ []

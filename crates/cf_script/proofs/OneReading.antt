@@ -8,7 +8,7 @@ use Rattle.cf_script.specs.declared.script_errors.ScriptError.TheVariants as fai
 use Rattle.cf_script.specs.Forms.{AreWords, Follows}
 use Rattle.cf_script.specs.Script.{lines_of, words_of, AreEvents, Spells, is_event_line, event_lines, IsScript}
 use Rattle.cf_script.specs.FailEvents.{IsLine, IsCause}
-use Rattle.cf_script.proofs.CommandMeans.{command_once}
+use Rattle.cf_script_words.proofs.CommandNames.{command_once}
 use Rattle.cf_script.proofs.EventOnce.{follows_once}
 
 words_once : (mode : Mode) (ws : List (List ℕ)) (e f : Event) → AreWords mode ws e → AreWords mode ws f → e ≡ f

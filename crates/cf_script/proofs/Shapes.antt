@@ -1,9 +1,9 @@
 -- Words that are so many are read as such.
 use Rattle.std.proofs.Common.{ℕ, ◌<◌, ◌≤◌, List, [], ◌∷◌, length, get_or, Bor, sym, subst, arith}
 use Rattle.std.specs.Prelude.{Option, Some, None}
-use Rattle.cf_script.specs.Words.{Reads}
+use Rattle.cf_script_words.specs.Words.{Reads}
 use Rattle.cf_script.specs.Forms.{OfOne, OfTwo, OfThree, OfTwoOrMore}
-use Rattle.cf_script.proofs.WordLists.{no_word, texts, after, two_words}
+use Rattle.cf_script_words.proofs.WordLists.{no_word, texts, after, two_words}
 
 -- the word at a place
 abbrev pub word_at : ℕ → List (Bor (List ℕ)) → List ℕ

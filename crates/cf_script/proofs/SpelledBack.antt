@@ -31,26 +31,29 @@ use Rattle.cf_base.specs.declared.events.ProviderEvent.{ProviderEvent}
 use Rattle.cf_base.specs.declared.events.ProviderEvent.TheVariants as provider
 use Rattle.cf_base.specs.declared.events.Event.{Event}
 use Rattle.cf_base.specs.declared.events.Event.TheVariants as event
-use Rattle.cf_script.specs.declared.commands.Command.{Command}
-use Rattle.cf_script.specs.declared.commands.Command.TheVariants as command
-use Rattle.cf_script.specs.declared.commands.BareCommand.TheVariants as bare
-use Rattle.cf_script.specs.declared.commands.PathCommand.TheVariants as on_path
-use Rattle.cf_script.specs.declared.commands.NumberCommand.TheVariants as on_number
-use Rattle.cf_script.specs.declared.commands.WordCommand.TheVariants as on_word
-use Rattle.cf_script.specs.declared.commands.TwoWordCommand.TheVariants as on_two
-use Rattle.cf_script.specs.declared.commands.ThreeWordCommand.TheVariants as on_three
-use Rattle.cf_script.specs.declared.commands.LongCommand.TheVariants as long
-use Rattle.cf_script.specs.declared.commands.OtherCommand.TheVariants as other
-use Rattle.cf_script.specs.declared.commands.PeerCommand.TheVariants as peer_word
-use Rattle.cf_script.specs.declared.commands.OperationCommand.{OperationCommand}
-use Rattle.cf_script.specs.declared.commands.OperationCommand.TheVariants as operation_word
-use Rattle.cf_script.specs.Words.{IsNumber, IsKey, IsPlain, IsData, IsPath, escaped, plain_text}
-use Rattle.cf_script.specs.Names.{command_name, operation_name, pin_name, reach_words, class_name, hydration_name, population_name, modifier_words, yes_name, good_name, link_name, is_foreign, is_for_engine, is_for_provider}
+use Rattle.cf_script_words.specs.declared.commands.Command.{Command}
+use Rattle.cf_script_words.specs.declared.commands.Command.TheVariants as command
+use Rattle.cf_script_words.specs.declared.commands.BareCommand.TheVariants as bare
+use Rattle.cf_script_words.specs.declared.commands.PathCommand.TheVariants as on_path
+use Rattle.cf_script_words.specs.declared.commands.NumberCommand.TheVariants as on_number
+use Rattle.cf_script_words.specs.declared.commands.WordCommand.TheVariants as on_word
+use Rattle.cf_script_words.specs.declared.commands.TwoWordCommand.TheVariants as on_two
+use Rattle.cf_script_words.specs.declared.commands.ThreeWordCommand.TheVariants as on_three
+use Rattle.cf_script_words.specs.declared.commands.LongCommand.TheVariants as long
+use Rattle.cf_script_words.specs.declared.commands.OtherCommand.TheVariants as other
+use Rattle.cf_script_words.specs.declared.commands.PeerCommand.TheVariants as peer_word
+use Rattle.cf_script_words.specs.declared.commands.OperationCommand.{OperationCommand}
+use Rattle.cf_script_words.specs.declared.commands.OperationCommand.TheVariants as operation_word
+use Rattle.cf_script_words.specs.Words.{IsNumber, IsKey, IsPlain, IsData, IsPath, escaped, plain_text}
+use Rattle.cf_script_words.specs.Names.{command_name, operation_name, pin_name, reach_words, class_name, hydration_name, population_name, modifier_words, yes_name, good_name, link_name}
+use Rattle.cf_script.specs.Modes.{is_foreign, is_for_engine, is_for_provider}
 use Rattle.cf_script.specs.Forms.{Follows, AreWords, IsOperation, IsPlanKey}
 use Rattle.cf_script.specs.Script.{lines_of, event_lines, AreEvents, Spells, is_event_line, IsScript}
 use Rattle.cf_script.specs.Fits.{KeyFits, PathFits, CallFits, DeviceFits, PeerFits, EngineFits, OperationFits, PlanKeyFits, ProviderFits, CanSpell, CanSpellAll}
-use Rattle.cf_script.specs.Printed.{key_text, key_of, in_sync_words, call_words, device_words, peer_words, engine_words, entry_words, operation_words, plan_key_text, provider_words, event_words, line_of, printed}
-use Rattle.cf_script.proofs.WordTexts.{IsWord, AreAllWords, fixed, number_word, pair_word, data_word}
+use Rattle.cf_script_words.specs.Texts.{key_text, in_sync_words, plan_key_text, line_of}
+use Rattle.cf_script.specs.Printed.{key_of, call_words, device_words, peer_words, engine_words, operation_words, provider_words, event_words, printed}
+use Rattle.cf_script_words.specs.Entries.{entry_words}
+use Rattle.cf_script_words.proofs.WordTexts.{IsWord, AreAllWords, fixed, number_word, pair_word, data_word}
 use Rattle.cf_script.proofs.LineTexts.{path_word, line_spells, line_counts, first_line, entries_written}
 
 record Spelled (m : Mode) (ws : List (List ℕ)) (e : Event) : Type 0 where

@@ -23,7 +23,7 @@ use Rattle.cf_base.specs.declared.events.ProviderEvent.{ProviderEvent}
 use Rattle.cf_base.specs.declared.events.ProviderEvent.TheVariants as provider
 use Rattle.cf_base.specs.declared.events.Event.{Event}
 use Rattle.cf_base.specs.declared.events.Event.TheVariants as event
-use Rattle.cf_script.specs.Words.{has_slash}
+use Rattle.cf_script_words.specs.Words.{has_slash}
 use Rattle.cf_script.specs.Script.{is_plain}
 use Rattle.cf_script.specs.Printed.{key_of}
 

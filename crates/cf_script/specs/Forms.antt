@@ -1,7 +1,5 @@
 -- The lines of a script: what follows the first word, and the event that the line then spells.
-use Rattle.std.specs.Prelude.{◌≡◌, ℕ, ◌==◌, Bool, true, false, List, [], ◌∷◌, codes, if◌then◌else◌, Some, None}
-use Rattle.std.specs.List.{slice_split}
-use Rattle.std.specs.Str.{IsUtf8}
+use Rattle.std.specs.Prelude.{◌≡◌, ℕ, Bool, true, false, List, [], ◌∷◌, codes, Some, None}
 use Rattle.cf_base.specs.declared.ids.Key.{Key}
 use Rattle.cf_base.specs.declared.ids.Usn.{Usn}
 use Rattle.cf_base.specs.declared.items.Pin.{Pin}
@@ -22,30 +20,32 @@ use Rattle.cf_base.specs.declared.events.EngineEvent.TheVariants as engine
 use Rattle.cf_base.specs.declared.events.ProviderEvent.TheVariants as provider
 use Rattle.cf_base.specs.declared.events.Event.{Event}
 use Rattle.cf_base.specs.declared.events.Event.TheVariants.{Call, Device, Peer, Engine, Provider}
-use Rattle.cf_script.specs.declared.commands.Command.{Command}
-use Rattle.cf_script.specs.declared.commands.Command.TheVariants as command
-use Rattle.cf_script.specs.declared.commands.BareCommand.{BareCommand}
-use Rattle.cf_script.specs.declared.commands.BareCommand.TheVariants as bare
-use Rattle.cf_script.specs.declared.commands.PathCommand.{PathCommand}
-use Rattle.cf_script.specs.declared.commands.PathCommand.TheVariants as on_path
-use Rattle.cf_script.specs.declared.commands.NumberCommand.{NumberCommand}
-use Rattle.cf_script.specs.declared.commands.NumberCommand.TheVariants as on_number
-use Rattle.cf_script.specs.declared.commands.WordCommand.{WordCommand}
-use Rattle.cf_script.specs.declared.commands.WordCommand.TheVariants as on_word
-use Rattle.cf_script.specs.declared.commands.TwoWordCommand.{TwoWordCommand}
-use Rattle.cf_script.specs.declared.commands.TwoWordCommand.TheVariants as on_two
-use Rattle.cf_script.specs.declared.commands.ThreeWordCommand.{ThreeWordCommand}
-use Rattle.cf_script.specs.declared.commands.ThreeWordCommand.TheVariants as on_three
-use Rattle.cf_script.specs.declared.commands.LongCommand.{LongCommand}
-use Rattle.cf_script.specs.declared.commands.LongCommand.TheVariants as long
-use Rattle.cf_script.specs.declared.commands.OtherCommand.{OtherCommand}
-use Rattle.cf_script.specs.declared.commands.OtherCommand.TheVariants as other
-use Rattle.cf_script.specs.declared.commands.PeerCommand.{PeerCommand}
-use Rattle.cf_script.specs.declared.commands.PeerCommand.TheVariants as peer_word
-use Rattle.cf_script.specs.declared.commands.OperationCommand.{OperationCommand}
-use Rattle.cf_script.specs.declared.commands.OperationCommand.TheVariants as operation_word
-use Rattle.cf_script.specs.Words.{IsNumber, IsPositive, IsKey, IsUsn, IsPlain, IsData, IsPath, escape_byte, written}
-use Rattle.cf_script.specs.Names.{command_name, peer_name, operation_name, pin_name, reach_words, class_name, hydration_name, population_name, modifier_words, flag_words, yes_name, good_name, link_name, kept_name, entry_kind, is_foreign}
+use Rattle.cf_script_words.specs.declared.commands.Command.{Command}
+use Rattle.cf_script_words.specs.declared.commands.Command.TheVariants as command
+use Rattle.cf_script_words.specs.declared.commands.BareCommand.{BareCommand}
+use Rattle.cf_script_words.specs.declared.commands.BareCommand.TheVariants as bare
+use Rattle.cf_script_words.specs.declared.commands.PathCommand.{PathCommand}
+use Rattle.cf_script_words.specs.declared.commands.PathCommand.TheVariants as on_path
+use Rattle.cf_script_words.specs.declared.commands.NumberCommand.{NumberCommand}
+use Rattle.cf_script_words.specs.declared.commands.NumberCommand.TheVariants as on_number
+use Rattle.cf_script_words.specs.declared.commands.WordCommand.{WordCommand}
+use Rattle.cf_script_words.specs.declared.commands.WordCommand.TheVariants as on_word
+use Rattle.cf_script_words.specs.declared.commands.TwoWordCommand.{TwoWordCommand}
+use Rattle.cf_script_words.specs.declared.commands.TwoWordCommand.TheVariants as on_two
+use Rattle.cf_script_words.specs.declared.commands.ThreeWordCommand.{ThreeWordCommand}
+use Rattle.cf_script_words.specs.declared.commands.ThreeWordCommand.TheVariants as on_three
+use Rattle.cf_script_words.specs.declared.commands.LongCommand.{LongCommand}
+use Rattle.cf_script_words.specs.declared.commands.LongCommand.TheVariants as long
+use Rattle.cf_script_words.specs.declared.commands.OtherCommand.{OtherCommand}
+use Rattle.cf_script_words.specs.declared.commands.OtherCommand.TheVariants as other
+use Rattle.cf_script_words.specs.declared.commands.PeerCommand.{PeerCommand}
+use Rattle.cf_script_words.specs.declared.commands.PeerCommand.TheVariants as peer_word
+use Rattle.cf_script_words.specs.declared.commands.OperationCommand.{OperationCommand}
+use Rattle.cf_script_words.specs.declared.commands.OperationCommand.TheVariants as operation_word
+use Rattle.cf_script_words.specs.Words.{IsNumber, IsPositive, IsKey, IsUsn, IsPlain, IsData, IsPath}
+use Rattle.cf_script_words.specs.Names.{command_name, peer_name, operation_name, pin_name, reach_words, class_name, hydration_name, population_name, modifier_words, flag_words, yes_name, good_name, link_name, kept_name}
+use Rattle.cf_script_words.specs.Entries.{AreEntries}
+use Rattle.cf_script.specs.Modes.{is_foreign}
 
 -- words that stand alone
 abbrev pub bare_event : BareCommand → Event
@@ -219,40 +219,6 @@ abbrev pub IsUpdate : List (List ℕ) → Event → Type 0
 IsUpdate (p ∷ i ∷ []) e = (path identity : List ℕ) × IsPath p path × IsPlain i identity × (e ≡ Provider (provider.Update path identity None))
 IsUpdate (p ∷ i ∷ n ∷ []) e = (path identity : List ℕ) × (size : ℕ) × IsPath p path × IsPlain i identity × IsNumber n size × (e ≡ Provider (provider.Update path identity (Some size)))
 IsUpdate ws e = ⊥
-
--- a name of an entry: a space, a percent sign and a comma are written as their codes
-abbrev pub escape_name_byte : ℕ → List ℕ
-escape_name_byte b = if b == 44 then codes "%2c" else escape_byte b
-
-abbrev pub escaped_name : List ℕ → List ℕ
-escaped_name name = written escape_name_byte name
-
-abbrev pub IsEntryName : List ℕ → List ℕ → Type 0
-IsEntryName word name = IsUtf8 name × (word ≡ escaped_name name)
-
--- the fields of an entry after its name and its kind: `NUM,IDENT` of a file, `IDENT` of a directory, with `insync`
--- after it or not
-abbrev pub IsEntryRest : Bool → List ℕ → List (List ℕ) → NewItem → Type 0
-IsEntryRest false name (n ∷ i ∷ f) item = (size : ℕ) × (identity : List ℕ) × (mark : Bool) × IsNumber n size × IsPlain i identity × (f ≡ flag_words (codes "insync") mark) × (item ≡ record { name = name; dir = false; size = size; identity = identity; mark = mark })
-IsEntryRest true name (i ∷ f) item = (identity : List ℕ) × (mark : Bool) × IsPlain i identity × (f ≡ flag_words (codes "insync") mark) × (item ≡ record { name = name; dir = true; size = 0; identity = identity; mark = mark })
-IsEntryRest dir name ws item = ⊥
-
-abbrev pub AreFields : List (List ℕ) → NewItem → Type 0
-AreFields (w ∷ k ∷ ws) item = (name : List ℕ) × (dir : Bool) × IsEntryName w name × (k ≡ entry_kind dir) × IsEntryRest dir name ws item
-AreFields ws item = ⊥
-
--- commas part the fields
-abbrev pub fields_of : List ℕ → List (List ℕ)
-fields_of word = slice_split (λ b. b == 44) word
-
-abbrev pub IsEntry : List ℕ → NewItem → Type 0
-IsEntry word item = AreFields (fields_of word) item
-
-abbrev pub AreEntries : List (List ℕ) → List NewItem → Type 0
-AreEntries [] [] = Unit {0}
-AreEntries (w ∷ ws) (item ∷ items) = IsEntry w item × AreEntries ws items
-AreEntries [] (item ∷ items) = ⊥
-AreEntries (w ∷ ws) [] = ⊥
 
 -- an operation: what follows its key
 abbrev pub IsTransfer : Key → List ℕ → List ℕ → Operation → Type 0

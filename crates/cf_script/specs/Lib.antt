@@ -1,9 +1,6 @@
-pub mod Words
-pub mod Names
+pub mod Modes
 pub mod Forms
 pub mod Script
 pub mod FailEvents
 pub mod Printed
-pub mod Lines
 pub mod Fits
-pub mod Cut

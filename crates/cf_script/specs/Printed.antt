@@ -4,7 +4,6 @@ use Rattle.std.specs.Fmt.{decimal}
 use Rattle.cf_base.specs.declared.ids.Key.{Key}
 use Rattle.cf_base.specs.declared.policies.Choice.{Choice}
 use Rattle.cf_base.specs.declared.policies.Choice.TheVariants as choice
-use Rattle.cf_base.specs.declared.operations.NewItem.{NewItem}
 use Rattle.cf_base.specs.declared.operations.Operation.{Operation}
 use Rattle.cf_base.specs.declared.operations.Operation.TheVariants as operation
 use Rattle.cf_base.specs.declared.calls.Call.{Call}
@@ -19,15 +18,10 @@ use Rattle.cf_base.specs.declared.events.ProviderEvent.{ProviderEvent}
 use Rattle.cf_base.specs.declared.events.ProviderEvent.TheVariants as provider
 use Rattle.cf_base.specs.declared.events.Event.{Event}
 use Rattle.cf_base.specs.declared.events.Event.TheVariants as event
-use Rattle.cf_script.specs.Words.{pair_text, plain_text, escaped}
-use Rattle.cf_script.specs.Names.{pin_name, reach_words, class_name, hydration_name, population_name, modifier_words, flag_words, yes_name, good_name, link_name, entry_kind}
-use Rattle.cf_script.specs.Forms.{escaped_name}
-
-abbrev pub key_text : Key → List ℕ
-key_text key = pair_text key.epoch key.number
-
-abbrev pub in_sync_words : Bool → List (List ℕ)
-in_sync_words b = flag_words (codes "insync") b
+use Rattle.cf_script_words.specs.Words.{pair_text, plain_text, escaped}
+use Rattle.cf_script_words.specs.Names.{pin_name, reach_words, class_name, hydration_name, population_name, modifier_words, yes_name, good_name, link_name}
+use Rattle.cf_script_words.specs.Entries.{entry_words}
+use Rattle.cf_script_words.specs.Texts.{key_text, in_sync_words, plan_key_text, line_of}
 
 abbrev pub range_words : Option (ℕ × ℕ) → List (List ℕ)
 range_words None = []
@@ -93,22 +87,6 @@ engine_words engine.Work = codes "work" ∷ []
 engine_words engine.Sync = codes "sync" ∷ []
 engine_words (engine.Space blocks) = codes "space" ∷ decimal blocks ∷ []
 
--- the fields of an entry after its name and its kind; the size of a directory is not written
-abbrev pub rest_text : NewItem → Bool → List ℕ
-rest_text item true = plain_text item.identity
-rest_text item false = decimal item.size ++ 44 ∷ plain_text item.identity
-
-abbrev pub mark_text : Bool → List ℕ
-mark_text true = codes ",insync"
-mark_text false = []
-
-abbrev pub entry_text : NewItem → List ℕ
-entry_text item = escaped_name item.name ++ 44 ∷ entry_kind item.dir ++ 44 ∷ rest_text item item.dir ++ mark_text item.mark
-
-abbrev pub entry_words : List NewItem → List (List ℕ)
-entry_words [] = []
-entry_words (item ∷ items) = entry_text item ∷ entry_words items
-
 -- an operation with this word for its key
 abbrev pub operation_words : List ℕ → Operation → List (List ℕ)
 operation_words key (operation.Transfer k at bytes) = codes "transfer" ∷ key ∷ decimal at ∷ plain_text bytes ∷ []
@@ -129,10 +107,6 @@ key_of (operation.Restart key) = key
 key_of (operation.Entries key list good) = key
 key_of (operation.AckDehydrate key good) = key
 
-abbrev pub plan_key_text : Bool → Key → List ℕ
-plan_key_text true key = codes "self"
-plan_key_text false key = key_text key
-
 abbrev pub provider_words : ProviderEvent → List (List ℕ)
 provider_words (provider.Place path size identity in_sync) = codes "place" ∷ escaped path ∷ decimal size ∷ plain_text identity ∷ in_sync_words in_sync
 provider_words (provider.PlaceDir path identity in_sync) = codes "placedir" ∷ escaped path ∷ plain_text identity ∷ in_sync_words in_sync
@@ -150,15 +124,6 @@ event_words (event.Device e) = device_words e
 event_words (event.Peer e) = codes "peer" ∷ peer_words e
 event_words (event.Engine e) = engine_words e
 event_words (event.Provider e) = provider_words e
-
--- words after the first one, each behind a space
-abbrev pub spaced : List (List ℕ) → List ℕ
-spaced [] = []
-spaced (w ∷ ws) = 32 ∷ w ++ spaced ws
-
-abbrev pub line_of : List (List ℕ) → List ℕ
-line_of [] = []
-line_of (w ∷ ws) = w ++ spaced ws
 
 -- one line an event
 abbrev pub printed : List Event → List ℕ

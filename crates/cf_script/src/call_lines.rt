@@ -2,14 +2,16 @@
 
 ghost use Rattle.std.specs.Prelude.{◌≡◌, ℕ, List, [], ◌∷◌, ◌++◌, codes, Option};
 ghost use Rattle.std.specs.Fmt.{decimal};
-ghost use Rattle.cf_script.specs.Words.{escaped, plain_text};
-ghost use Rattle.cf_script.specs.Names.{pin_name, reach_words, hydration_name, population_name, modifier_words};
-ghost use Rattle.cf_script.specs.Printed.{key_text, range_words, call_words, connect_name};
-ghost use Rattle.cf_script.specs.Lines.{line_words, value_words};
+ghost use Rattle.cf_script_words.specs.Words.{escaped, plain_text};
+ghost use Rattle.cf_script_words.specs.Names.{pin_name, reach_words, hydration_name, population_name, modifier_words};
+ghost use Rattle.cf_script_words.specs.Texts.{key_text};
+ghost use Rattle.cf_script.specs.Printed.{range_words, call_words, connect_name};
+ghost use Rattle.cf_script_words.specs.Lines.{line_words, value_words};
 
-use crate::printed_lines::{Field, Line, Value};
-use crate::texts::{class_text, hydration_text, pin_text, population_text, yes_text};
 use cf_base::{Blob, Call, Key, Pin, Policy, Reach, Span, Text};
+use cf_script_words::{
+    Field, Line, Value, class_text, hydration_text, pin_text, population_text, yes_text,
+};
 
 fn span_value(offset: u32, len: u32) -> Value
     ensures { value_words result ≡ decimal offset ∷ decimal len ∷ [] }
@@ -65,7 +67,7 @@ fn write_line<'a>(key: Key, offset: u32, bytes: &'a Blob) -> Line<'a>
     Line::Three("write", Field::Value(key), Field::Value(offset), bytes)
 }
 
-#[tactic(auto, using(crate::proofs::Bytes::joins))]
+#[tactic(auto, using(cf_script_words::proofs::Bytes::joins))]
 fn policy_line<'a>(policy: Policy) -> Line<'a>
     ensures { line_words result ≡ codes "policy" ∷ hydration_name policy.hydration ∷ population_name policy.population ∷ modifier_words policy.validate policy.restart policy.auto }
 {
@@ -125,7 +127,7 @@ pub fn number_line<'a>(word: &'static str, number: u32) -> Line<'a>
 }
 
 /// The line of a call.
-#[tactic(auto, using(crate::proofs::Bytes::joins))]
+#[tactic(auto, using(cf_script_words::proofs::Bytes::joins))]
 pub fn call_line<'a>(call: &'a Call) -> Line<'a>
     ensures { line_words result ≡ call_words call.now }
 {

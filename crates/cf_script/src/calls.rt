@@ -1,14 +1,13 @@
 //! The lines of an application.
 
 ghost use Rattle.std.specs.Prelude.{◌≡◌, [], ◌∷◌, map, IfOk};
-ghost use Rattle.cf_script.specs.Words.{Reads};
+ghost use Rattle.cf_script_words.specs.Words.{Reads};
 ghost use Rattle.cf_script.specs.Forms.{IsClose, IsCancel, IsTick, IsReadLine, IsGet, IsWrite, IsSize, IsRename, IsPinLine, IsDehydrate, IsRanges, IsPolicyLine, IsKeep};
 
-use crate::data::data;
-use crate::names::{class, hydration, modifiers, pin, population, reach, yes};
-use crate::numbers::{key, number, positive};
-use crate::paths::path;
 use cf_base::{Call, Event, Handle, OutOfMemory, Policy, WaitId};
+use cf_script_words::{
+    class, data, hydration, key, modifiers, number, path, pin, population, positive, reach, yes,
+};
 use std::alloc::Global;
 
 /// `close H`.

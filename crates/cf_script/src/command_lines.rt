@@ -1,21 +1,21 @@
 //! The lines of the commands that have words after them.
 
 ghost use Rattle.std.specs.Prelude.{◌≡◌, map, IfOk};
-ghost use Rattle.cf_script.specs.Words.{Reads};
+ghost use Rattle.cf_script_words.specs.Words.{Reads};
 ghost use Rattle.cf_script.specs.Forms.{OfOne, OfTwo, OfThree, OfTwoOrMore, IsPathLine, IsNumberLine, IsWordLine, IsTwoWordLine, IsThreeWordLine, IsLongLine, IsOtherLine};
 
 use crate::calls::{
     cancel, close, dehydrate, get, keep, pin_line, policy, ranges, read, rename, size, tick, write,
-};
-use crate::commands::{
-    LongCommand, NumberCommand, OtherCommand, PathCommand, ThreeWordCommand, TwoWordCommand,
-    WordCommand,
 };
 use crate::operations::{do_line, plan};
 use crate::peers::{link, peer};
 use crate::providers::{convert, mark, place, place_dir, update};
 use crate::short_lines::{crash, number_line, path_line};
 use cf_base::{Event, OutOfMemory};
+use cf_script_words::{
+    LongCommand, NumberCommand, OtherCommand, PathCommand, ThreeWordCommand, TwoWordCommand,
+    WordCommand,
+};
 use std::alloc::Global;
 
 /// A word and a path.

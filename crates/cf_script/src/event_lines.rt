@@ -2,15 +2,15 @@
 
 ghost use Rattle.std.specs.Prelude.{◌≡◌, ℕ, List, [], ◌∷◌, ◌++◌, codes, Option};
 ghost use Rattle.std.specs.Fmt.{decimal};
-ghost use Rattle.cf_script.specs.Words.{escaped, plain_text};
-ghost use Rattle.cf_script.specs.Printed.{choice_words, device_words, peer_words, engine_words, provider_words, event_words, in_sync_words, size_words};
-ghost use Rattle.cf_script.specs.Lines.{line_words, value_words};
+ghost use Rattle.cf_script_words.specs.Words.{escaped, plain_text};
+ghost use Rattle.cf_script.specs.Printed.{choice_words, device_words, peer_words, engine_words, provider_words, event_words, size_words};
+ghost use Rattle.cf_script_words.specs.Texts.{in_sync_words};
+ghost use Rattle.cf_script_words.specs.Lines.{line_words, value_words};
 
 use crate::call_lines::{call_line, number_line};
 use crate::operation_lines::operation_line;
-use crate::printed_lines::{Field, Line, Value};
-use crate::texts::link_text;
 use cf_base::{Choice, DeviceEvent, EngineEvent, Event, Identity, PeerEvent, ProviderEvent, Text};
+use cf_script_words::{Field, Line, Value, link_text};
 
 fn crash_line<'a>(choice: Choice) -> Line<'a>
     ensures { line_words result ≡ codes "crash" ∷ choice_words choice }
@@ -106,7 +106,7 @@ fn identity_line<'a>(
     Line::Three(word, path, identity, Field::Value(value))
 }
 
-#[tactic(auto, using(crate::proofs::Bytes::joins))]
+#[tactic(auto, using(cf_script_words::proofs::Bytes::joins))]
 fn provider_line<'a>(event: &'a ProviderEvent) -> Line<'a>
     ensures { line_words result ≡ provider_words event.now }
 {

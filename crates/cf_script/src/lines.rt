@@ -1,19 +1,18 @@
 //! One line of a script.
 
 ghost use Rattle.std.specs.Prelude.{◌≡◌, map, IfOk, IsTrue};
-ghost use Rattle.cf_script.specs.Words.{Reads};
-ghost use Rattle.cf_script.specs.Names.{is_for_engine, is_for_provider, is_foreign};
+ghost use Rattle.cf_script_words.specs.Words.{Reads};
+ghost use Rattle.cf_script.specs.Modes.{is_for_engine, is_for_provider, is_foreign};
 ghost use Rattle.cf_script.specs.Forms.{Follows, AreWords};
 ghost use Rattle.cf_script.specs.Script.{words_of, is_plain, Spells};
 
 use crate::command_lines::{long, on_number, on_path, on_three, on_two, on_word, other};
-use crate::commands::{
-    BareCommand, Command, LongCommand, NumberCommand, OtherCommand, PathCommand, TwoWordCommand,
-    WordCommand,
-};
-use crate::first_words::command;
 use crate::short_lines::bare;
 use cf_base::{Event, Mode, OutOfMemory};
+use cf_script_words::{
+    BareCommand, Command, LongCommand, NumberCommand, OtherCommand, PathCommand, TwoWordCommand,
+    WordCommand, command,
+};
 use std::alloc::{AllocError, Global};
 
 fn is_for_engine(command: Command) -> bool

@@ -1,12 +1,12 @@
 //! The operations of a scripted provider, as they are written.
 
 ghost use Rattle.std.specs.Prelude.{◌≡◌, ◌∷◌};
-ghost use Rattle.cf_script.specs.Printed.{key_of, operation_words, plan_key_text};
-ghost use Rattle.cf_script.specs.Lines.{line_words};
+ghost use Rattle.cf_script.specs.Printed.{key_of, operation_words};
+ghost use Rattle.cf_script_words.specs.Texts.{plan_key_text};
+ghost use Rattle.cf_script_words.specs.Lines.{line_words};
 
-use crate::printed_lines::{Field, Line, Value};
-use crate::texts::good_text;
 use cf_base::{Key, Operation};
+use cf_script_words::{Field, Line, Value, good_text};
 
 fn key_of(operation: &Operation) -> Key
     ensures { result ≡ key_of operation.now }
@@ -23,7 +23,7 @@ fn key_of(operation: &Operation) -> Key
 }
 
 /// The line of an operation behind the word `do` or `plan`. In a plan its key may be the callback's own.
-#[tactic(auto, using(crate::proofs::Bytes::joins))]
+#[tactic(auto, using(cf_script_words::proofs::Bytes::joins))]
 pub fn operation_line<'a>(word: &'static str, own: bool, operation: &'a Operation) -> Line<'a>
     ensures { line_words result ≡ word.now ∷ operation_words (plan_key_text own (key_of operation.now)) operation.now }
 {

@@ -2,15 +2,11 @@
 
 ghost use Rattle.std.specs.Prelude.{◌≡◌, ◌∷◌, map, IfOk};
 ghost use Rattle.cf_base.specs.declared.ids.Key.{Key};
-ghost use Rattle.cf_script.specs.Words.{Reads};
+ghost use Rattle.cf_script_words.specs.Words.{Reads};
 ghost use Rattle.cf_script.specs.Forms.{OfOne, OfTwo, OfThree, IsTransfer, IsFail, IsRetrieve, IsAck, IsRehydrate, IsEntries, IsAckDehydrate, IsOperation, IsDone, IsDo, IsPlanKey, IsPlanned, IsPlan};
 
-use crate::commands::OperationCommand;
-use crate::data::data;
-use crate::entries::entries;
-use crate::names::{good, operation_command};
-use crate::numbers::{key, number};
 use cf_base::{Event, Key, Operation, OutOfMemory, ProviderEvent, Span};
+use cf_script_words::{OperationCommand, data, entries, good, key, number, operation_command};
 use std::alloc::Global;
 
 fn transfer(

@@ -1,15 +1,11 @@
 //! The lines of another device and of the link to the remote.
 
 ghost use Rattle.std.specs.Prelude.{◌≡◌, map, IfOk};
-ghost use Rattle.cf_script.specs.Words.{Reads};
+ghost use Rattle.cf_script_words.specs.Words.{Reads};
 ghost use Rattle.cf_script.specs.Forms.{IsPeerWord, IsPeerPair, IsPeerEvent, IsPeer, IsLink};
 
-use crate::commands::PeerCommand;
-use crate::data::data;
-use crate::names::{inline, peer_command};
-use crate::numbers::positive;
-use crate::paths::path;
 use cf_base::{EngineEvent, Event, OutOfMemory, PeerEvent};
+use cf_script_words::{PeerCommand, data, inline, path, peer_command, positive};
 use std::alloc::Global;
 
 fn put(alloc: Global, target: &str, bytes: &str) -> Result<Option<Event>, OutOfMemory>

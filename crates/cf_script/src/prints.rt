@@ -4,8 +4,8 @@ ghost use Rattle.std.specs.Prelude.{◌≡◌, IfOk};
 ghost use Rattle.cf_script.specs.Printed.{printed};
 
 use crate::event_lines::event_line;
-use crate::put_lines::put_line;
 use cf_base::{Blob, Event, OutOfMemory};
+use cf_script_words::put_line;
 use std::alloc::Global;
 
 /// The text of the events, one line for each: with DATA as pairs of digits, and a line end after the last line.

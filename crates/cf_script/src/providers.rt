@@ -1,14 +1,11 @@
 //! The lines of a scripted provider that name a path.
 
 ghost use Rattle.std.specs.Prelude.{◌≡◌, [], ◌∷◌, map, IfOk};
-ghost use Rattle.cf_script.specs.Words.{Reads};
+ghost use Rattle.cf_script_words.specs.Words.{Reads};
 ghost use Rattle.cf_script.specs.Forms.{IsPlace, IsPlaceDir, IsConvert, IsUpdate, IsMark};
 
-use crate::data::identity;
-use crate::names::in_sync;
-use crate::numbers::{number, usn};
-use crate::paths::path;
 use cf_base::{Event, OutOfMemory, ProviderEvent};
+use cf_script_words::{identity, in_sync, number, path, usn};
 use std::alloc::Global;
 
 fn place_item(

@@ -1,14 +1,11 @@
 //! The lines of one word, of a word with a path or a number, and of a power cut.
 
 ghost use Rattle.std.specs.Prelude.{◌≡◌, [], ◌∷◌, map, IfOk};
-ghost use Rattle.cf_script.specs.Words.{Reads};
+ghost use Rattle.cf_script_words.specs.Words.{Reads};
 ghost use Rattle.cf_script.specs.Forms.{bare_event, path_event, number_event, IsBareLine, IsPathLine, IsNumberLine, IsCrash};
 
-use crate::commands::{BareCommand, NumberCommand, PathCommand};
-use crate::names::kept;
-use crate::numbers::number;
-use crate::paths::path;
 use cf_base::{Call, Choice, DeviceEvent, EngineEvent, Event, OutOfMemory, ProviderEvent, Text};
+use cf_script_words::{BareCommand, NumberCommand, PathCommand, kept, number, path};
 use std::alloc::Global;
 
 fn bare_event(command: BareCommand) -> Event

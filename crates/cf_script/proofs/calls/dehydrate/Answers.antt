@@ -1,8 +1,8 @@
 use Rattle.std.proofs.Common.{subst, sym}
 use Rattle.std.specs.Result.{IfOk}
-use Rattle.cf_script.specs.Words.{Reads}
+use Rattle.cf_script_words.specs.Words.{Reads}
 use Rattle.cf_script.specs.Forms.{IsDehydrate}
-use Rattle.cf_script.proofs.WordLists.{one_word, three_exactly}
+use Rattle.cf_script_words.proofs.WordLists.{one_word, three_exactly}
 use Rattle.cf_script.proofs.calls.dehydrate.Goals as goal
 
 pub returns-in-len1 : goal.returns-in-len1

@@ -1,7 +1,7 @@
 use Rattle.std.proofs.lemmas.Result.{IfOk-weaker}
-use Rattle.cf_script.specs.Words.{Reads}
+use Rattle.cf_script_words.specs.Words.{Reads}
 use Rattle.cf_script.specs.Forms.{OfThree, IsThreeWordLine}
-use Rattle.cf_script.proofs.WordLists.{texts}
+use Rattle.cf_script_words.proofs.WordLists.{texts}
 use Rattle.cf_script.proofs.Shapes.{of_three, word_at}
 use Rattle.cf_script.proofs.command_lines.on_three.Goals as goal
 

@@ -1,9 +1,9 @@
 use Rattle.std.proofs.Common.{◌∷◌, ◌∙◌, subst, sym, get_or}
 use Rattle.std.specs.Result.{IfOk}
 use Rattle.std.proofs.lemmas.Result.{IfOk-weaker}
-use Rattle.cf_script.specs.Words.{Reads}
+use Rattle.cf_script_words.specs.Words.{Reads}
 use Rattle.cf_script.specs.Forms.{Follows, AreWords}
-use Rattle.cf_script.proofs.WordLists.{first_word, no_word, texts, after}
+use Rattle.cf_script_words.proofs.WordLists.{first_word, no_word, texts, after}
 use Rattle.cf_script.proofs.CommandMeans.{words_read, foreign}
 use Rattle.cf_script.proofs.lines.event_of.Goals as goal
 

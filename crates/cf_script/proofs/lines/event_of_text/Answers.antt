@@ -1,8 +1,8 @@
 use Rattle.std.proofs.Common.{◌∙◌, ap, subst}
 use Rattle.std.specs.Result.{IfOk}
-use Rattle.cf_script.specs.Words.{Reads}
+use Rattle.cf_script_words.specs.Words.{Reads}
 use Rattle.cf_script.specs.Forms.{AreWords}
-use Rattle.cf_script.proofs.WordLists.{texts}
+use Rattle.cf_script_words.proofs.WordLists.{texts}
 use Rattle.cf_script.proofs.lines.event_of_text.Goals as goal
 
 pub returns-in-Ok : goal.returns-in-Ok

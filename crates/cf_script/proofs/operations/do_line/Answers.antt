@@ -1,10 +1,10 @@
 use Rattle.std.proofs.Common.{◌≡◌}
 use Rattle.std.proofs.lemmas.Result.{IfOk-weaker}
-use Rattle.cf_script.specs.Words.{Reads, IsKey}
-use Rattle.cf_script.specs.Names.{operation_name}
+use Rattle.cf_script_words.specs.Words.{Reads, IsKey}
+use Rattle.cf_script_words.specs.Names.{operation_name}
 use Rattle.cf_script.specs.Forms.{IsDo, IsDone}
-use Rattle.cf_script.proofs.WordLists.{texts}
-use Rattle.cf_script.proofs.LineMeans.{both_read}
+use Rattle.cf_script_words.proofs.WordLists.{texts}
+use Rattle.cf_script_words.proofs.PartsRead.{both_read}
 use Rattle.cf_script.proofs.operations.do_line.Goals as goal
 
 pub returns : goal.returns

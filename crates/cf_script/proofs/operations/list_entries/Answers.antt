@@ -1,8 +1,8 @@
 use Rattle.std.proofs.Common.{subst, sym}
 use Rattle.std.specs.Result.{IfOk}
-use Rattle.cf_script.specs.Words.{Reads}
+use Rattle.cf_script_words.specs.Words.{Reads}
 use Rattle.cf_script.specs.Forms.{IsEntries}
-use Rattle.cf_script.proofs.WordLists.{first_word}
+use Rattle.cf_script_words.proofs.WordLists.{first_word}
 use Rattle.cf_script.proofs.operations.list_entries.Goals as goal
 
 pub returns-in-len1-up : goal.returns-in-len1-up

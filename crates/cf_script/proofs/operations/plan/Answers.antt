@@ -1,10 +1,10 @@
 use Rattle.std.proofs.Common.{◌≡◌}
 use Rattle.std.proofs.lemmas.Result.{IfOk-weaker}
-use Rattle.cf_script.specs.Words.{Reads}
-use Rattle.cf_script.specs.Names.{operation_name}
+use Rattle.cf_script_words.specs.Words.{Reads}
+use Rattle.cf_script_words.specs.Names.{operation_name}
 use Rattle.cf_script.specs.Forms.{IsPlan, IsPlanKey, IsPlanned}
-use Rattle.cf_script.proofs.WordLists.{texts}
-use Rattle.cf_script.proofs.LineMeans.{both_read}
+use Rattle.cf_script_words.proofs.WordLists.{texts}
+use Rattle.cf_script_words.proofs.PartsRead.{both_read}
 use Rattle.cf_script.proofs.operations.plan.Goals as goal
 
 pub returns : goal.returns

@@ -1,7 +1,7 @@
 use Rattle.std.proofs.lemmas.Result.{IfOk-weaker}
-use Rattle.cf_script.specs.Words.{Reads}
+use Rattle.cf_script_words.specs.Words.{Reads}
 use Rattle.cf_script.specs.Forms.{OfTwo, IsTransfer}
-use Rattle.cf_script.proofs.WordLists.{texts}
+use Rattle.cf_script_words.proofs.WordLists.{texts}
 use Rattle.cf_script.proofs.Shapes.{of_two, word_at}
 use Rattle.cf_script.proofs.operations.transfer_line.Goals as goal
 

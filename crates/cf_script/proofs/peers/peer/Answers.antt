@@ -1,11 +1,11 @@
 use Rattle.std.proofs.Common.{◌≡◌, ◌∷◌, subst, sym, get_or}
 use Rattle.std.specs.Result.{IfOk}
 use Rattle.std.proofs.lemmas.Result.{IfOk-weaker}
-use Rattle.cf_script.specs.Words.{Reads}
-use Rattle.cf_script.specs.Names.{peer_name}
+use Rattle.cf_script_words.specs.Words.{Reads}
+use Rattle.cf_script_words.specs.Names.{peer_name}
 use Rattle.cf_script.specs.Forms.{IsPeer, IsPeerEvent}
-use Rattle.cf_script.proofs.WordLists.{first_word, no_word, texts, after}
-use Rattle.cf_script.proofs.LineMeans.{chosen_reads}
+use Rattle.cf_script_words.proofs.WordLists.{first_word, no_word, texts, after}
+use Rattle.cf_script_words.proofs.PartsRead.{chosen_reads}
 use Rattle.cf_script.proofs.peers.peer.Goals as goal
 
 pub returns : goal.returns

@@ -1,6 +1,6 @@
 use Rattle.std.proofs.Common.{◌∙◌}
 use Rattle.cf_script.specs.Printed.{printed}
-use Rattle.cf_script.proofs.Bytes.{print_more, print_done}
+use Rattle.cf_script.proofs.LinesPrinted.{print_more, print_done}
 use Rattle.cf_script.proofs.prints.print.Goals as goal
 
 pub loop-rest-preserved : goal.loop-rest-preserved

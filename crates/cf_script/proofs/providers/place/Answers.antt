@@ -1,8 +1,8 @@
 use Rattle.std.proofs.Common.{subst, sym}
 use Rattle.std.specs.Result.{IfOk}
-use Rattle.cf_script.specs.Words.{Reads}
+use Rattle.cf_script_words.specs.Words.{Reads}
 use Rattle.cf_script.specs.Forms.{IsPlace}
-use Rattle.cf_script.proofs.WordLists.{three_words}
+use Rattle.cf_script_words.proofs.WordLists.{three_words}
 use Rattle.cf_script.proofs.providers.place.Goals as goal
 
 pub returns-in-len3-up : goal.returns-in-len3-up

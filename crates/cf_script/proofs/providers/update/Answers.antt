@@ -1,8 +1,8 @@
 use Rattle.std.proofs.Common.{subst, sym}
 use Rattle.std.specs.Result.{IfOk}
-use Rattle.cf_script.specs.Words.{Reads}
+use Rattle.cf_script_words.specs.Words.{Reads}
 use Rattle.cf_script.specs.Forms.{IsUpdate}
-use Rattle.cf_script.proofs.WordLists.{two_exactly, three_exactly}
+use Rattle.cf_script_words.proofs.WordLists.{two_exactly, three_exactly}
 use Rattle.cf_script.proofs.providers.update.Goals as goal
 
 pub returns-in-len2 : goal.returns-in-len2

@@ -1,7 +1,7 @@
 use Rattle.std.proofs.Common.{subst, sym}
-use Rattle.cf_script.specs.Words.{Reads}
+use Rattle.cf_script_words.specs.Words.{Reads}
 use Rattle.cf_script.specs.Forms.{IsCrash}
-use Rattle.cf_script.proofs.WordLists.{one_word}
+use Rattle.cf_script_words.proofs.WordLists.{one_word}
 use Rattle.cf_script.proofs.short_lines.crash.Goals as goal
 
 pub returns-in-len1 : goal.returns-in-len1

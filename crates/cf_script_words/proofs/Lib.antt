@@ -1,0 +1,14 @@
+pub mod Cuts
+pub mod NumberMeans
+pub mod KeyOnce
+pub mod DataMeans
+pub mod PathMeans
+pub mod FixedWords
+pub mod CommandNames
+pub mod FirstWords
+pub mod WordLists
+pub mod PartsRead
+pub mod EntriesRead
+pub mod Bytes
+pub mod Loops
+pub mod WordTexts

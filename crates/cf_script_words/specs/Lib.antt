@@ -1,0 +1,6 @@
+pub mod Words
+pub mod Names
+pub mod Cut
+pub mod Entries
+pub mod Texts
+pub mod Lines
