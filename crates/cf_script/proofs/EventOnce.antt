@@ -24,7 +24,8 @@ use Rattle.cf_script_words.specs.declared.commands.PeerCommand.TheVariants as pe
 use Rattle.cf_script_words.specs.declared.commands.OperationCommand.{OperationCommand}
 use Rattle.cf_script_words.specs.declared.commands.OperationCommand.TheVariants as operation
 use Rattle.cf_script_words.specs.Words.{IsNumber, IsPositive, IsPath, escape_byte}
-use Rattle.cf_script.specs.Forms.{IsBareLine, IsPathLine, IsNumberLine, IsClose, IsCancel, IsTick, IsReadLine, IsGet, IsWrite, IsSize, IsRename, IsPinLine, IsDehydrate, IsRanges, IsPolicyLine, IsKeep, IsCrash, IsLink, IsPeerWord, IsPeerPair, IsPeerEvent, IsPeer, IsPlace, IsPlaceDir, IsConvert, IsUpdate, IsMark, IsOperation, IsDone, IsDo, IsPlanned, IsPlan, Follows, IsWordLine, IsTwoWordLine, IsThreeWordLine, IsLongLine, IsOtherLine}
+use Rattle.cf_script.specs.Forms.{IsBareLine, IsPathLine, IsNumberLine, IsClose, IsCancel, IsTick, IsReadLine, IsGet, IsWrite, IsSize, IsRename, IsPinLine, IsDehydrate, IsRanges, IsPolicyLine, IsKeep, IsCrash, IsLink, IsPeerWord, IsPeerPair, IsPeerEvent, IsPeer, IsPlace, IsPlaceDir, IsConvert, IsUpdate, IsMark, IsDone, IsDo, IsPlanned, IsPlan, Follows, IsWordLine, IsTwoWordLine, IsThreeWordLine, IsLongLine, IsOtherLine}
+use Rattle.cf_script_words.specs.Operations.{IsOperation}
 use Rattle.cf_script_words.specs.Entries.{IsEntryName, IsEntryRest, AreFields, AreEntries, escape_name_byte, fields_of}
 use Rattle.cf_script_words.proofs.NumberMeans.{number_once}
 use Rattle.cf_script_words.proofs.DataMeans.{plain_once, data_once}

@@ -39,11 +39,12 @@ use Rattle.cf_script_words.specs.declared.commands.ThreeWordCommand.TheVariants 
 use Rattle.cf_script_words.specs.declared.commands.LongCommand.TheVariants as long
 use Rattle.cf_script_words.specs.declared.commands.OtherCommand.TheVariants as other
 use Rattle.cf_script_words.specs.declared.commands.PeerCommand.{PeerCommand}
-use Rattle.cf_script.specs.Forms.{Follows, AreWords, IsBareLine, IsPathLine, IsNumberLine, IsPeerWord, IsPeerPair, IsPeerEvent, IsOperation, IsKeyOf, kept}
+use Rattle.cf_script.specs.Forms.{Follows, AreWords, IsBareLine, IsPathLine, IsNumberLine, IsPeerWord, IsPeerPair, IsPeerEvent, IsKeyOf, kept}
+use Rattle.cf_script_words.specs.Operations.{IsOperation}
 use Rattle.cf_script_words.specs.Entries.{IsEntryRest, AreFields, AreEntries, escape_name_byte, fields_of}
 use Rattle.cf_script.specs.Script.{AreEvents, IsScript, Spells, event_lines, is_plain, lines_of, words_of}
 use Rattle.cf_script.specs.Fits.{is_of, ItemFits, ItemsFit, KeyFits, PathFits, CallFits, ChoiceFits, DeviceFits, PeerFits, EngineFits, OperationFits, PlanKeyFits, ProviderFits, CanSpell}
-use Rattle.cf_script.specs.Printed.{key_of}
+use Rattle.cf_script_print.specs.Printed.{key_of}
 use Rattle.cf_script_words.proofs.PathMeans.{code_cases, name_code}
 use Rattle.cf_script_words.proofs.WordTexts.{and_parts}
 

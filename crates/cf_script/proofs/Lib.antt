@@ -1,10 +1,9 @@
-pub mod Shapes
 pub mod CommandMeans
 pub mod LinesRead
 pub mod PlanKeys
+pub mod PlacesRead
 pub mod EventOnce
 pub mod OneReading
-pub mod LinesPrinted
 pub mod LineTexts
 pub mod SpelledBack
 pub mod FitsBack

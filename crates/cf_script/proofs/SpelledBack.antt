@@ -47,11 +47,13 @@ use Rattle.cf_script_words.specs.declared.commands.OperationCommand.TheVariants 
 use Rattle.cf_script_words.specs.Words.{IsNumber, IsKey, IsPlain, IsData, IsPath, escaped, plain_text}
 use Rattle.cf_script_words.specs.Names.{command_name, operation_name, pin_name, reach_words, class_name, hydration_name, population_name, modifier_words, yes_name, good_name, link_name}
 use Rattle.cf_script.specs.Modes.{is_foreign, is_for_engine, is_for_provider}
-use Rattle.cf_script.specs.Forms.{Follows, AreWords, IsOperation, IsPlanKey}
+use Rattle.cf_script.specs.Forms.{Follows, AreWords, IsPlanKey}
+use Rattle.cf_script_words.specs.Operations.{IsOperation}
 use Rattle.cf_script.specs.Script.{lines_of, event_lines, AreEvents, Spells, is_event_line, IsScript}
 use Rattle.cf_script.specs.Fits.{KeyFits, PathFits, CallFits, DeviceFits, PeerFits, EngineFits, OperationFits, PlanKeyFits, ProviderFits, CanSpell, CanSpellAll}
 use Rattle.cf_script_words.specs.Texts.{key_text, in_sync_words, plan_key_text, line_of}
-use Rattle.cf_script.specs.Printed.{key_of, call_words, device_words, peer_words, engine_words, operation_words, provider_words, event_words, printed}
+use Rattle.cf_script_print.specs.Printed.{key_of, operation_words}
+use Rattle.cf_script_print.specs.Printed.{call_words, device_words, peer_words, engine_words, provider_words, event_words, printed}
 use Rattle.cf_script_words.specs.Entries.{entry_words}
 use Rattle.cf_script_words.proofs.WordTexts.{IsWord, AreAllWords, fixed, number_word, pair_word, data_word}
 use Rattle.cf_script.proofs.LineTexts.{path_word, line_spells, line_counts, first_line, entries_written}

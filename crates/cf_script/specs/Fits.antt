@@ -25,7 +25,7 @@ use Rattle.cf_base.specs.declared.events.Event.{Event}
 use Rattle.cf_base.specs.declared.events.Event.TheVariants as event
 use Rattle.cf_script_words.specs.Words.{has_slash}
 use Rattle.cf_script.specs.Script.{is_plain}
-use Rattle.cf_script.specs.Printed.{key_of}
+use Rattle.cf_script_print.specs.Printed.{key_of}
 
 abbrev pub Fits : ℕ → Type 0
 Fits n = n < 2 ^ 32

@@ -10,9 +10,7 @@ use Rattle.cf_base.specs.declared.policies.Population.{Population}
 use Rattle.cf_base.specs.declared.policies.Mode.{Mode}
 use Rattle.cf_base.specs.declared.policies.Choice.{Choice}
 use Rattle.cf_base.specs.declared.policies.Choice.TheVariants as choice
-use Rattle.cf_base.specs.declared.operations.NewItem.{NewItem}
 use Rattle.cf_base.specs.declared.operations.Operation.{Operation}
-use Rattle.cf_base.specs.declared.operations.Operation.TheVariants as operation
 use Rattle.cf_base.specs.declared.calls.Call.TheVariants as call
 use Rattle.cf_base.specs.declared.events.DeviceEvent.TheVariants as device
 use Rattle.cf_base.specs.declared.events.PeerEvent.TheVariants as peer
@@ -41,10 +39,10 @@ use Rattle.cf_script_words.specs.declared.commands.OtherCommand.TheVariants as o
 use Rattle.cf_script_words.specs.declared.commands.PeerCommand.{PeerCommand}
 use Rattle.cf_script_words.specs.declared.commands.PeerCommand.TheVariants as peer_word
 use Rattle.cf_script_words.specs.declared.commands.OperationCommand.{OperationCommand}
-use Rattle.cf_script_words.specs.declared.commands.OperationCommand.TheVariants as operation_word
 use Rattle.cf_script_words.specs.Words.{IsNumber, IsPositive, IsKey, IsUsn, IsPlain, IsData, IsPath}
-use Rattle.cf_script_words.specs.Names.{command_name, peer_name, operation_name, pin_name, reach_words, class_name, hydration_name, population_name, modifier_words, flag_words, yes_name, good_name, link_name, kept_name}
-use Rattle.cf_script_words.specs.Entries.{AreEntries}
+use Rattle.cf_script_words.specs.Names.{command_name, peer_name, operation_name, pin_name, reach_words, class_name, hydration_name, population_name, modifier_words, flag_words, yes_name, link_name, kept_name}
+use Rattle.cf_script_words.specs.Shapes.{OfOne, OfTwo, OfThree, OfTwoOrMore}
+use Rattle.cf_script_words.specs.Operations.{IsOperation}
 use Rattle.cf_script.specs.Modes.{is_foreign}
 
 -- words that stand alone
@@ -76,24 +74,6 @@ number_event on_number.Stop n = Device (device.Stop n)
 number_event on_number.Deliver n = Engine (engine.Deliver n)
 number_event on_number.Arrive n = Engine (engine.Arrive n)
 number_event on_number.Space n = Engine (engine.Space n)
-
--- one word stands there, two or three, and they are such
-abbrev pub OfOne : {X : Type 0} → (List ℕ → X → Type 0) → List (List ℕ) → X → Type 0
-OfOne Are (a ∷ []) x = Are a x
-OfOne Are ws x = ⊥
-
-abbrev pub OfTwo : {X : Type 0} → (List ℕ → List ℕ → X → Type 0) → List (List ℕ) → X → Type 0
-OfTwo Are (a ∷ b ∷ []) x = Are a b x
-OfTwo Are ws x = ⊥
-
-abbrev pub OfThree : {X : Type 0} → (List ℕ → List ℕ → List ℕ → X → Type 0) → List (List ℕ) → X → Type 0
-OfThree Are (a ∷ b ∷ c ∷ []) x = Are a b c x
-OfThree Are ws x = ⊥
-
--- two words, and those after them, are such
-abbrev pub OfTwoOrMore : {X : Type 0} → (List ℕ → List ℕ → List (List ℕ) → X → Type 0) → List (List ℕ) → X → Type 0
-OfTwoOrMore Are (a ∷ b ∷ ws) x = Are a b ws x
-OfTwoOrMore Are ws x = ⊥
 
 abbrev pub IsBareLine : BareCommand → List (List ℕ) → Event → Type 0
 IsBareLine c [] e = e ≡ bare_event c
@@ -219,39 +199,6 @@ abbrev pub IsUpdate : List (List ℕ) → Event → Type 0
 IsUpdate (p ∷ i ∷ []) e = (path identity : List ℕ) × IsPath p path × IsPlain i identity × (e ≡ Provider (provider.Update path identity None))
 IsUpdate (p ∷ i ∷ n ∷ []) e = (path identity : List ℕ) × (size : ℕ) × IsPath p path × IsPlain i identity × IsNumber n size × (e ≡ Provider (provider.Update path identity (Some size)))
 IsUpdate ws e = ⊥
-
--- an operation: what follows its key
-abbrev pub IsTransfer : Key → List ℕ → List ℕ → Operation → Type 0
-IsTransfer key o d op = (at : ℕ) × (bytes : List ℕ) × IsNumber o at × IsData d bytes × (op ≡ operation.Transfer key at bytes)
-
-abbrev pub IsFail : Key → List ℕ → List ℕ → List ℕ → Operation → Type 0
-IsFail key o l s op = (start len status : ℕ) × IsNumber o start × IsNumber l len × IsNumber s status × (op ≡ operation.Refuse key (record { start = start; len = len }) status)
-
-abbrev pub IsRetrieve : Key → List ℕ → List ℕ → Operation → Type 0
-IsRetrieve key o l op = (start len : ℕ) × IsNumber o start × IsNumber l len × (op ≡ operation.Retrieve key (record { start = start; len = len }))
-
-abbrev pub IsAck : Key → List ℕ → List ℕ → List ℕ → Operation → Type 0
-IsAck key o l g op = (start len : ℕ) × (good : Bool) × IsNumber o start × IsNumber l len × (g ≡ good_name good) × (op ≡ operation.Ack key (record { start = start; len = len }) good)
-
-abbrev pub IsRehydrate : Key → List (List ℕ) → Operation → Type 0
-IsRehydrate key [] op = op ≡ operation.Restart key
-IsRehydrate key (w ∷ ws) op = ⊥
-
-abbrev pub IsEntries : Key → List (List ℕ) → Operation → Type 0
-IsEntries key [] op = ⊥
-IsEntries key (g ∷ ws) op = (good : Bool) × (list : List NewItem) × (g ≡ good_name good) × (good ≡ false → ws ≡ []) × AreEntries ws list × (op ≡ operation.Entries key list good)
-
-abbrev pub IsAckDehydrate : Key → List ℕ → Operation → Type 0
-IsAckDehydrate key g op = (good : Bool) × (g ≡ good_name good) × (op ≡ operation.AckDehydrate key good)
-
-abbrev pub IsOperation : OperationCommand → Key → List (List ℕ) → Operation → Type 0
-IsOperation operation_word.Transfer key ws op = OfTwo (IsTransfer key) ws op
-IsOperation operation_word.Fail key ws op = OfThree (IsFail key) ws op
-IsOperation operation_word.Retrieve key ws op = OfTwo (IsRetrieve key) ws op
-IsOperation operation_word.Ack key ws op = OfThree (IsAck key) ws op
-IsOperation operation_word.Rehydrate key ws op = IsRehydrate key ws op
-IsOperation operation_word.Entries key ws op = IsEntries key ws op
-IsOperation operation_word.AckDehydrate key ws op = OfOne (IsAckDehydrate key) ws op
 
 -- `do OP`
 abbrev pub IsDone : OperationCommand → Key → List (List ℕ) → Event → Type 0

@@ -2,5 +2,4 @@ pub mod Modes
 pub mod Forms
 pub mod Script
 pub mod FailEvents
-pub mod Printed
 pub mod Fits

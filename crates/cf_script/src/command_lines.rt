@@ -2,7 +2,8 @@
 
 ghost use Rattle.std.specs.Prelude.{◌≡◌, map, IfOk};
 ghost use Rattle.cf_script_words.specs.Words.{Reads};
-ghost use Rattle.cf_script.specs.Forms.{OfOne, OfTwo, OfThree, OfTwoOrMore, IsPathLine, IsNumberLine, IsWordLine, IsTwoWordLine, IsThreeWordLine, IsLongLine, IsOtherLine};
+ghost use Rattle.cf_script_words.specs.Shapes.{OfOne, OfTwo, OfThree, OfTwoOrMore};
+ghost use Rattle.cf_script.specs.Forms.{IsPathLine, IsNumberLine, IsWordLine, IsTwoWordLine, IsThreeWordLine, IsLongLine, IsOtherLine};
 
 use crate::calls::{
     cancel, close, dehydrate, get, keep, pin_line, policy, ranges, read, rename, size, tick, write,

@@ -5,7 +5,7 @@ ghost use Rattle.cf_base.specs.declared.events.Event.{Event};
 ghost use Rattle.cf_base.specs.declared.policies.Mode.{Mode};
 ghost use Rattle.std.specs.List.{list_all};
 ghost use Rattle.cf_script.specs.Fits.{CanSpell, CanSpellAll, is_of};
-ghost use Rattle.cf_script.specs.Printed.{printed};
+ghost use Rattle.cf_script_print.specs.Printed.{printed};
 ghost use Rattle.cf_script.specs.Script.{Spells, IsScript};
 ghost use Rattle.cf_script.specs.declared.scripts.TheConstants.{MOST_EVENTS};
 

@@ -1,12 +1,31 @@
 //! The lines of a scripted provider that name a path.
 
 ghost use Rattle.std.specs.Prelude.{◌≡◌, [], ◌∷◌, map, IfOk};
-ghost use Rattle.cf_script_words.specs.Words.{Reads};
+ghost use Rattle.cf_script_words.specs.Words.{Reads, IsPath, IsPlain};
 ghost use Rattle.cf_script.specs.Forms.{IsPlace, IsPlaceDir, IsConvert, IsUpdate, IsMark};
 
-use cf_base::{Event, OutOfMemory, ProviderEvent};
+use cf_base::{Event, Identity, OutOfMemory, ProviderEvent, Text};
 use cf_script_words::{identity, in_sync, number, path, usn};
 use std::alloc::Global;
+
+fn path_and_identity(
+    alloc: Global,
+    target: &str,
+    word: &str,
+) -> Result<Option<(Text, Identity)>, OutOfMemory>
+    ensures { IfOk result (Reads (λ x. IsPath target.now x.0 × IsPlain word.now x.1)) }
+{
+    let path = match path(alloc, target) {
+        Ok(Some(path)) => path,
+        Ok(None) => return Ok(None),
+        Err(e) => return Err(e),
+    };
+    match identity(alloc, word) {
+        Ok(Some(identity)) => Ok(Some((path, identity))),
+        Ok(None) => Ok(None),
+        Err(e) => Err(e),
+    }
+}
 
 fn place_item(
     alloc: Global,
@@ -23,13 +42,8 @@ fn place_item(
     let Some(in_sync) = in_sync(flag) else {
         return Ok(None);
     };
-    let path = match path(alloc, target) {
-        Ok(Some(path)) => path,
-        Ok(None) => return Ok(None),
-        Err(e) => return Err(e),
-    };
-    match identity(alloc, identity_word) {
-        Ok(Some(identity)) => Ok(Some(Event::Provider(ProviderEvent::Place {
+    match path_and_identity(alloc, target, identity_word) {
+        Ok(Some((path, identity))) => Ok(Some(Event::Provider(ProviderEvent::Place {
             path,
             size,
             identity,
@@ -62,13 +76,8 @@ pub fn place_dir(
     let Some(in_sync) = in_sync(flag) else {
         return Ok(None);
     };
-    let path = match path(alloc, target) {
-        Ok(Some(path)) => path,
-        Ok(None) => return Ok(None),
-        Err(e) => return Err(e),
-    };
-    match identity(alloc, identity_word) {
-        Ok(Some(identity)) => Ok(Some(Event::Provider(ProviderEvent::PlaceDir {
+    match path_and_identity(alloc, target, identity_word) {
+        Ok(Some((path, identity))) => Ok(Some(Event::Provider(ProviderEvent::PlaceDir {
             path,
             identity,
             in_sync,
@@ -82,13 +91,11 @@ pub fn place_dir(
 pub fn convert(alloc: Global, target: &str, word: &str) -> Result<Option<Event>, OutOfMemory>
     ensures { IfOk result (Reads (IsConvert target.now word.now)) }
 {
-    let path = match path(alloc, target) {
-        Ok(Some(path)) => path,
-        Ok(None) => return Ok(None),
-        Err(e) => return Err(e),
-    };
-    match identity(alloc, word) {
-        Ok(Some(identity)) => Ok(Some(Event::Provider(ProviderEvent::Convert { path, identity }))),
+    match path_and_identity(alloc, target, word) {
+        Ok(Some((path, identity))) => Ok(Some(Event::Provider(ProviderEvent::Convert {
+            path,
+            identity,
+        }))),
         Ok(None) => Ok(None),
         Err(e) => Err(e),
     }
@@ -97,13 +104,8 @@ pub fn convert(alloc: Global, target: &str, word: &str) -> Result<Option<Event>,
 fn update_in_place(alloc: Global, target: &str, word: &str) -> Result<Option<Event>, OutOfMemory>
     ensures { IfOk result (Reads (IsUpdate (target.now ∷ word.now ∷ []))) }
 {
-    let path = match path(alloc, target) {
-        Ok(Some(path)) => path,
-        Ok(None) => return Ok(None),
-        Err(e) => return Err(e),
-    };
-    match identity(alloc, word) {
-        Ok(Some(identity)) => Ok(Some(Event::Provider(ProviderEvent::Update {
+    match path_and_identity(alloc, target, word) {
+        Ok(Some((path, identity))) => Ok(Some(Event::Provider(ProviderEvent::Update {
             path,
             identity,
             size: None,
@@ -124,13 +126,8 @@ fn update_sized(
     let Some(size) = number(size) else {
         return Ok(None);
     };
-    let path = match path(alloc, target) {
-        Ok(Some(path)) => path,
-        Ok(None) => return Ok(None),
-        Err(e) => return Err(e),
-    };
-    match identity(alloc, word) {
-        Ok(Some(identity)) => Ok(Some(Event::Provider(ProviderEvent::Update {
+    match path_and_identity(alloc, target, word) {
+        Ok(Some((path, identity))) => Ok(Some(Event::Provider(ProviderEvent::Update {
             path,
             identity,
             size: Some(size),

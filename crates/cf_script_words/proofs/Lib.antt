@@ -9,6 +9,5 @@ pub mod FirstWords
 pub mod WordLists
 pub mod PartsRead
 pub mod EntriesRead
-pub mod Bytes
-pub mod Loops
 pub mod WordTexts
+pub mod Shapes

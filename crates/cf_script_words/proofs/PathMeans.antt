@@ -6,6 +6,9 @@ use Rattle.std.proofs.lemmas.List.{append-nil}
 use Rattle.std.proofs.lemmas.Bool.{cases_Bool, eqb-true}
 use Rattle.cf_script_words.specs.Words.{Reads, escape_byte, written, escaped, IsPath, has_slash}
 use Rattle.cf_script_words.specs.Entries.{escape_name_byte, escaped_name, IsEntryName}
+use Rattle.cf_script_words.specs.Escapes.{code_of}
+use Rattle.cf_script_words.specs.declared.escapes.Escapes.{Escapes}
+use Rattle.cf_script_words.specs.declared.escapes.Escapes.TheVariants as escapes
 
 pub code_cases : (b : ℕ) → ((b ≡ 32) × (escape_byte b ≡ 37 ∷ 50 ∷ 48 ∷ [])) ⊎ (((b ≡ 37) × (escape_byte b ≡ 37 ∷ 50 ∷ 53 ∷ [])) ⊎ ((b ≢ 37) × (escape_byte b ≡ b ∷ [])))
 code_cases b = elim (cases_Bool (b == 32)) [
@@ -140,3 +143,8 @@ not_name word p bytes e same bad x is =
 
 pub name_reads : (word name : List ℕ) → Reads (λ x. word ≡ escaped_name x) (Some name) → IsUtf8 name → Reads (IsEntryName word) (Some name)
 name_reads word name h utf8 = ((utf8, h.0), λ y is. h.1 y is.1)
+
+-- in both ways
+pub codes_stand_apart : (e : Escapes) → IsApart (code_of e)
+codes_stand_apart escapes.Path = paths_apart
+codes_stand_apart escapes.Name = names_apart

@@ -3,4 +3,6 @@ pub mod Names
 pub mod Cut
 pub mod Entries
 pub mod Texts
-pub mod Lines
+pub mod Escapes
+pub mod Shapes
+pub mod Operations

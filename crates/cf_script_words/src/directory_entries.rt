@@ -1,51 +1,21 @@
 //! Entries of a directory.
 
-ghost use Rattle.std.specs.Prelude.{◌≡◌, ℕ, ◌<◌, Bool, true, false, List, ◌++◌, length, map, IfOk, IfSome, IfNone};
+ghost use Rattle.std.specs.Prelude.{◌≡◌, true, false, ◌∷◌, map, IfOk};
 ghost use Rattle.cf_script_words.specs.Words.{Reads};
-ghost use Rattle.cf_script_words.specs.Entries.{escape_name_byte, escaped_name, IsEntryName, IsEntryRest, AreFields, fields_of, IsEntry, AreEntries};
+ghost use Rattle.cf_script_words.specs.Entries.{IsEntryName, IsEntryRest, AreFields, fields_of, IsEntry, AreEntries};
 
 use crate::byte_words::identity;
+use crate::escapes::{Escapes, unescaped};
 use crate::names::{entry_kind, in_sync};
 use crate::numbers::number;
 use cf_base::{Blob, NewItem, OutOfMemory, Sequence};
 use std::alloc::{AllocError, Global};
 
-/// The first byte of a name, and what is written after it.
-fn next_byte(text: &[u8]) -> Option<(u8, &[u8])>
-    ensures found { IfSome result (λ x. text.now ≡ escape_name_byte x.0 ++ x.1.now) }
-    ensures shorter { IfSome result (λ x. length x.1.now < length text.now) }
-    ensures none { IfNone result ((b : ℕ) (more : List ℕ) → text.now ≡ escape_name_byte b ++ more → ⊥) }
-{
-    match text {
-        [b'%', b'2', b'0', rest @ ..] => Some((b' ', rest)),
-        [b'%', b'2', b'5', rest @ ..] => Some((b'%', rest)),
-        [b'%', b'2', b'c', rest @ ..] => Some((b',', rest)),
-        [] | [b'%' | b' ' | b',', ..] => None,
-        [byte, rest @ ..] => Some((*byte, rest)),
-    }
-}
-
-/// The name that is written so.
-fn unescaped(alloc: Global, word: &[u8]) -> Result<Option<Blob>, OutOfMemory>
-    ensures { IfOk result (Reads (λ name. word.now ≡ escaped_name name)) }
-{
-    let mut name = Vec::with_capacity(alloc, word.len())?;
-    let mut rest = word;
-    while !rest.is_empty() {
-        let Some((byte, after)) = next_byte(rest) else {
-            return Ok(None);
-        };
-        name.push(byte)?;
-        rest = after;
-    }
-    Ok(Some(Blob::from_vec(name)))
-}
-
 /// A name, which is judged later.
 fn entry_name(alloc: Global, word: &str) -> Result<Option<Blob>, OutOfMemory>
     ensures { IfOk result (Reads (IsEntryName word.now)) }
 {
-    let Some(name) = unescaped(alloc, word.as_bytes())? else {
+    let Some(name) = unescaped(alloc, Escapes::Name, word.as_bytes())? else {
         return Ok(None);
     };
     match str::from_utf8(name.as_slice()) {
@@ -54,12 +24,15 @@ fn entry_name(alloc: Global, word: &str) -> Result<Option<Blob>, OutOfMemory>
     }
 }
 
-fn file_rest(alloc: Global, name: Blob, words: &[&str]) -> Result<Option<NewItem>, OutOfMemory>
-    ensures { IfOk result (Reads (IsEntryRest false name (map (λ w. w.now) words.now))) }
+fn file_item(
+    alloc: Global,
+    name: Blob,
+    size: &str,
+    identity_word: &str,
+    flag: &[&str],
+) -> Result<Option<NewItem>, OutOfMemory>
+    ensures { IfOk result (Reads (IsEntryRest false name (size.now ∷ identity_word.now ∷ map (λ w. w.now) flag.now))) }
 {
-    let [size, identity_word, flag @ ..] = words else {
-        return Ok(None);
-    };
     let Some(size) = number(size) else {
         return Ok(None);
     };
@@ -79,12 +52,23 @@ fn file_rest(alloc: Global, name: Blob, words: &[&str]) -> Result<Option<NewItem
     }
 }
 
-fn dir_rest(alloc: Global, name: Blob, words: &[&str]) -> Result<Option<NewItem>, OutOfMemory>
-    ensures { IfOk result (Reads (IsEntryRest true name (map (λ w. w.now) words.now))) }
+fn file_rest(alloc: Global, name: Blob, words: &[&str]) -> Result<Option<NewItem>, OutOfMemory>
+    ensures { IfOk result (Reads (IsEntryRest false name (map (λ w. w.now) words.now))) }
 {
-    let [identity_word, flag @ ..] = words else {
-        return Ok(None);
-    };
+    match words {
+        [size, identity, flag @ ..] => file_item(alloc, name, size, identity, flag),
+        _ => Ok(None),
+    }
+}
+
+fn dir_item(
+    alloc: Global,
+    name: Blob,
+    identity_word: &str,
+    flag: &[&str],
+) -> Result<Option<NewItem>, OutOfMemory>
+    ensures { IfOk result (Reads (IsEntryRest true name (identity_word.now ∷ map (λ w. w.now) flag.now))) }
+{
     let Some(mark) = in_sync(flag) else {
         return Ok(None);
     };
@@ -98,6 +82,15 @@ fn dir_rest(alloc: Global, name: Blob, words: &[&str]) -> Result<Option<NewItem>
         })),
         Ok(None) => Ok(None),
         Err(e) => Err(e),
+    }
+}
+
+fn dir_rest(alloc: Global, name: Blob, words: &[&str]) -> Result<Option<NewItem>, OutOfMemory>
+    ensures { IfOk result (Reads (IsEntryRest true name (map (λ w. w.now) words.now))) }
+{
+    match words {
+        [identity, flag @ ..] => dir_item(alloc, name, identity, flag),
+        [] => Ok(None),
     }
 }
 

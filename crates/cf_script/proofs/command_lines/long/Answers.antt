@@ -1,8 +1,9 @@
 use Rattle.std.proofs.lemmas.Result.{IfOk-weaker}
 use Rattle.cf_script_words.specs.Words.{Reads}
-use Rattle.cf_script.specs.Forms.{OfTwoOrMore, IsLongLine}
+use Rattle.cf_script_words.specs.Shapes.{OfTwoOrMore}
+use Rattle.cf_script.specs.Forms.{IsLongLine}
 use Rattle.cf_script_words.proofs.WordLists.{texts, after}
-use Rattle.cf_script.proofs.Shapes.{of_two_or_more, word_at}
+use Rattle.cf_script_words.proofs.Shapes.{of_two_or_more, word_at}
 use Rattle.cf_script.proofs.command_lines.long.Goals as goal
 
 pub returns-in-len2-up : goal.returns-in-len2-up

@@ -1,8 +1,9 @@
 use Rattle.std.proofs.lemmas.Result.{IfOk-weaker}
 use Rattle.cf_script_words.specs.Words.{Reads}
-use Rattle.cf_script.specs.Forms.{OfOne, IsPathLine}
+use Rattle.cf_script_words.specs.Shapes.{OfOne}
+use Rattle.cf_script.specs.Forms.{IsPathLine}
 use Rattle.cf_script_words.proofs.WordLists.{texts}
-use Rattle.cf_script.proofs.Shapes.{of_one, word_at}
+use Rattle.cf_script_words.proofs.Shapes.{of_one, word_at}
 use Rattle.cf_script.proofs.command_lines.on_path.Goals as goal
 
 pub returns-in-len1 : goal.returns-in-len1

@@ -1,8 +1,9 @@
 use Rattle.std.proofs.lemmas.Result.{IfOk-weaker}
 use Rattle.cf_script_words.specs.Words.{Reads}
-use Rattle.cf_script.specs.Forms.{OfThree, IsThreeWordLine}
+use Rattle.cf_script_words.specs.Shapes.{OfThree}
+use Rattle.cf_script.specs.Forms.{IsThreeWordLine}
 use Rattle.cf_script_words.proofs.WordLists.{texts}
-use Rattle.cf_script.proofs.Shapes.{of_three, word_at}
+use Rattle.cf_script_words.proofs.Shapes.{of_three, word_at}
 use Rattle.cf_script.proofs.command_lines.on_three.Goals as goal
 
 pub returns-in-len3 : goal.returns-in-len3

@@ -1,8 +1,9 @@
 use Rattle.std.proofs.lemmas.Result.{IfOk-weaker}
 use Rattle.cf_script_words.specs.Words.{Reads}
-use Rattle.cf_script.specs.Forms.{OfTwo, IsTwoWordLine}
+use Rattle.cf_script_words.specs.Shapes.{OfTwo}
+use Rattle.cf_script.specs.Forms.{IsTwoWordLine}
 use Rattle.cf_script_words.proofs.WordLists.{texts}
-use Rattle.cf_script.proofs.Shapes.{of_two, word_at}
+use Rattle.cf_script_words.proofs.Shapes.{of_two, word_at}
 use Rattle.cf_script.proofs.command_lines.on_two.Goals as goal
 
 pub returns-in-len2 : goal.returns-in-len2

@@ -1,5 +1,5 @@
 use Rattle.cf_script.specs.Forms.{IsWordLine}
-use Rattle.cf_script.proofs.Shapes.{of_one}
+use Rattle.cf_script_words.proofs.Shapes.{of_one}
 use Rattle.cf_script.proofs.command_lines.on_word.Goals as goal
 
 pub returns-in-len1 : goal.returns-in-len1

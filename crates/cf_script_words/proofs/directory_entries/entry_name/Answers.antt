@@ -9,3 +9,6 @@ returns-in-Err c =
 
 pub returns-in-Ok : goal.returns-in-Ok
 returns-in-Ok c = name_reads c.args.word.now c.in-Some.name (rw c.as_bytes.ensures.value at (rw c.in-Some.is at c.in_ok-name.ensures)) (rw c.as_slice.ensures at c.in-Ok.ensures.cases.1)
+
+pub returns-in_default : goal.returns-in_default
+returns-in_default c = λ x is. (rw c.in_default.is at c.in_ok-name.ensures) x (c.as_bytes.ensures.value ∙ is.1)

@@ -1,6 +1,0 @@
-use Rattle.cf_script.specs.Forms.{IsAckDehydrate}
-use Rattle.cf_script.proofs.Shapes.{of_one}
-use Rattle.cf_script.proofs.operations.ack_dehydrate_line.Goals as goal
-
-pub returns-in-len1 : goal.returns-in-len1
-returns-in-len1 c = of_one (IsAckDehydrate c.args.key) c.args.words.now c.ack_dehydrate.result c.in-len1.len_at_least c.in-len1.len_below c.ack_dehydrate.ensures

@@ -1,0 +1,6 @@
+use Rattle.cf_script_words.specs.Operations.{IsFail}
+use Rattle.cf_script_words.proofs.Shapes.{of_three}
+use Rattle.cf_script_words.proofs.operations.fail_line.Goals as goal
+
+pub returns-in-len3 : goal.returns-in-len3
+returns-in-len3 c = of_three (IsFail c.args.key) c.args.words.now c.fail.result c.in-len3.len_at_least c.in-len3.len_below c.fail.ensures
