@@ -1,6 +1,6 @@
 -- An event of another device that asks the remote nothing is never answered as RemoteFault.
-use Rattle.std.proofs.Common.{◌≡◌, ◌⊎◌, ◌||◌, not, ℕ, Bool, true, false, List, [], ◌∷◌, refl, sym, ◌∙◌, ap, subst, inl, inr}
-use Rattle.std.specs.Prelude.{Option, Some, None, is_some, length, nat_lt}
+use Rattle.std.proofs.Common.{◌≡◌, not, ℕ, Bool, true, false, List, [], ◌∷◌, ◌∙◌, ap, inl, inr}
+use Rattle.std.specs.Prelude.{None, is_some, length, nat_lt}
 use Rattle.std.specs.List.{list_all}
 use Rattle.cf_base.specs.declared.answers.Answer.{Answer}
 use Rattle.cf_base.specs.declared.answers.Shown.{Shown}
@@ -12,14 +12,14 @@ use Rattle.cf_base.specs.declared.limits.TheConstants.{MOST_PATH_NAMES}
 use Rattle.cf_base.specs.declared.messages.Entry.{Entry}
 use Rattle.cf_base.specs.declared.policies.Mode.{Mode}
 use Rattle.cf_model.specs.Arrows.{Arrow}
-use Rattle.cf_model.specs.Events.{begun, tree_of}
+use Rattle.cf_model.specs.Events.{begun}
 use Rattle.cf_model.specs.Lawful.{IsStep}
 use Rattle.cf_model.specs.LookUp.{bad_names, names_of}
-use Rattle.cf_model.specs.Peers.{at_parent, at_path, at_place, below_root, look, make_at, move_at, peer_event, put_at, remove_at, root_entry, stat_at, unless_bad}
+use Rattle.cf_model.specs.Peers.{at_parent, at_path, below_root, move_at, peer_event, remove_at, stat_at, unless_bad}
 use Rattle.cf_model.specs.State.{State}
 use Rattle.cf_model.specs.Texts.{is_name}
 use Rattle.cf_model.specs.Trees.{Ends}
-use Rattle.cf_model.specs.Words.{first_of, is_empty}
+use Rattle.cf_model.specs.Words.{first_of}
 use Rattle.cf_check_compare.specs.Alone.{asks_none, is_unplaced}
 use Rattle.cf_check_ways.proofs.StepsSure.{StepOf, step_of}
 use Rattle.cf_check_ways.specs.Ways.{is_fault}

@@ -12,7 +12,7 @@ use Rattle.cf_check_traces.specs.Tests.{begins}
 abbrev is_ten : ℕ → Bool
 is_ten b = b == 10
 
-bool_cases : (b : Bool) → (b ≡ true) ⊎ (b ≡ false)
+pub bool_cases : (b : Bool) → (b ≡ true) ⊎ (b ≡ false)
 bool_cases true = inl refl
 bool_cases false = inr refl
 
@@ -44,11 +44,11 @@ lines_whole (b ∷ c ∷ bs) some e = elim (bool_cases (is_ten b)) [
       rw (miss, rest) refl
 ]
 
-at_some : (b : Bool) (n m : ℕ) → cond b (Some n) None ≡ Some m → (b ≡ true) × (n ≡ m)
+pub at_some : (b : Bool) (n m : ℕ) → cond b (Some n) None ≡ Some m → (b ≡ true) × (n ≡ m)
 at_some true n m e = (refl, cc)
 at_some false n m e = absurd cc
 
-at_none : (b : Bool) (n : ℕ) → cond b (Some n) None ≡ None → b ≡ false
+pub at_none : (b : Bool) (n : ℕ) → cond b (Some n) None ≡ None → b ≡ false
 at_none true n e = absurd cc
 at_none false n e = refl
 

@@ -1,9 +1,8 @@
 -- The lines of an answer, one after the other.
-use Rattle.std.proofs.Common.{◌≡◌, ◌<◌, ◌+◌, ◌&&◌, ℕ, suc, Bool, true, false, List, [], ◌∷◌, ◌++◌, length, map, drop, refl, sym, ◌∙◌, ap, subst, arith, append-nil, append_assoc, length-append}
+use Rattle.std.proofs.Common.{◌≡◌, ◌<◌, ◌+◌, ℕ, suc, Bool, true, false, List, [], ◌∷◌, ◌++◌, length, map, drop, refl, sym, ◌∙◌, ap, arith, append-nil, append_assoc, length-append}
 use Rattle.std.specs.Prelude.{None, cond}
 use Rattle.std.specs.List.{flat_map, list_all}
 use Rattle.cf_base.specs.declared.answers.Answer.{Answer}
-use Rattle.cf_base.specs.declared.answers.Shown.{Shown}
 use Rattle.cf_base.specs.declared.notices.Notice.{Notice}
 use Rattle.cf_check_compare.specs.Lines.{IsFirstLine}
 use Rattle.cf_check_compare.specs.Passed.{IsTextOf}

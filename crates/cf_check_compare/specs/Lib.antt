@@ -1,3 +1,4 @@
 pub mod Alone
 pub mod Lines
 pub mod Passed
+pub mod Told

@@ -1,7 +1,6 @@
 //! An answer held against the report that should go on with it, and what the report tells of a remote that failed.
 //!
-//! What `compare` promises is what a judge of the report builds on. Nothing is promised of `tellings`: wrong ones can lead a run away
-//! from the report, and that is seen by the tests of `compare`.
+//! What `compare` and `tellings` promise is what a judge of the report builds on.
 #![tactic(auto)]
 
 mod answers;

@@ -1,6 +1,6 @@
-use Rattle.std.proofs.Common.{refl, ◌∙◌, sym, ap}
+use Rattle.std.proofs.Common.{refl, ◌∙◌, sym}
 use Rattle.cf_check_text.specs.Clean.{clean_notice}
-use Rattle.cf_check_compare.proofs.Alls.{all_done, all_ends, all_next}
+use Rattle.cf_check_compare.proofs.Alls.{all_next}
 use Rattle.cf_check_compare.proofs.answers.are_clean.Goals as goal
 
 pub loop-notice-init : goal.loop-notice-init

@@ -1,7 +1,7 @@
 use Rattle.std.proofs.Common.{refl, ◌∙◌, sym, ap}
 use Rattle.cf_base.specs.declared.items.ListedItem.{ListedItem}
 use Rattle.cf_check_text.specs.Clean.{has_no_ten}
-use Rattle.cf_check_compare.proofs.Alls.{all_done, all_ends, all_next}
+use Rattle.cf_check_compare.proofs.Alls.{all_next}
 use Rattle.cf_check_compare.proofs.answers.are_clean_items.Goals as goal
 
 pub loop-item-init : goal.loop-item-init

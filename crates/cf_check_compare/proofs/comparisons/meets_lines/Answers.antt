@@ -1,7 +1,7 @@
 use Rattle.std.proofs.Common.{◌+◌, ◌∙◌, ap, drop, refl, subst, sym, List}
 use Rattle.cf_base.specs.declared.notices.Notice.{Notice}
 use Rattle.cf_check_compare.proofs.Alls.{rest_is}
-use Rattle.cf_check_compare.proofs.Texts.{first_notice, meets_next, meets_not, some_text}
+use Rattle.cf_check_compare.proofs.Texts.{first_notice, meets_next, meets_not}
 use Rattle.cf_check_compare.specs.Passed.{IsTextOf}
 use Rattle.cf_check_traces.specs.Tests.{meets_lines}
 use Rattle.cf_check_compare.proofs.comparisons.meets_lines.Goals as goal
