@@ -1,6 +1,6 @@
 //! An answer held against the report that should go on with it, and what the report tells of a remote that failed.
 //!
-//! What `compare` and `tellings` promise is what a judge of the report builds on.
+//! What `compare` promises is what a judge of the report builds on. `tellings` gives what the definition of that judge says.
 #![tactic(auto)]
 
 mod answers;
