@@ -225,7 +225,11 @@ fn a_cut_call_leaves_the_last_point_or_the_new_one(rt: HostRuntime) -> Result<()
     Ok(())
 }
 
-// The same of an opening, which makes eleven.
+// How many calls of the disk an opening makes: a sync, a read of each slot and of the image, two reads of each of two records and one of
+// the gate behind them, and six calls of an append.
+const OPENING: u32 = 15;
+
+// The same of an opening.
 fn cut_opening<D: Disk + Drop>(alloc: Global, disk: D, calls: u32) -> Result<bool, Refusal> {
     let mut volume = format(alloc, disk)?;
     let started = start(alloc, &mut volume);
@@ -234,11 +238,11 @@ fn cut_opening<D: Disk + Drop>(alloc: Global, disk: D, calls: u32) -> Result<boo
     let (disk, done) = tried(alloc, disk);
     let left = left_by(alloc, disk, Choice::Mix(5));
     started?;
-    Ok(left? == BEFORE && done == (calls == 11))
+    Ok(left? == BEFORE && done == (calls == OPENING))
 }
 
 fn openings_are_fine(alloc: Global) -> Result<bool, Refusal> {
-    for calls in 0..12 {
+    for calls in 0..OPENING + 1 {
         let disk = MemDisk::new(alloc, THREE)?;
         if !cut_opening(alloc, disk, calls)? {
             return Ok(false);
