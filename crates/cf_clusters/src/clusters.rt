@@ -260,6 +260,23 @@ impl Data {
         }
     }
 
+    /// Stages the lowest free cluster, in place of another, and gives its number, as `stage` does where the bytes need no
+    /// disk. None comes exactly where no cluster is free; then nothing is done.
+    pub fn take(&mut self, old: Option<u32>) -> Option<u32>
+        requires { ForSome old (λ o. o < length self.old) }
+        ensures uses { IfSome result (λ k. self.new ≡ staged_at k old self.old) }
+        ensures was_free { IfSome result (λ k. (k < length self.old) × (use_of self.old k ≡ Free)) }
+        ensures lowest { IfSome result (λ k. k ≡ position_or_len is_free self.old) }
+        ensures none { result ≡ None ↔ how_many is_free self.old ≡ 0 }
+        ensures same { IfNone result (self.new ≡ self.old) }
+    {
+        let Some(cluster) = self.pick() else {
+            return None;
+        };
+        self.note(cluster, old);
+        Some(cluster)
+    }
+
     /// Writes a block into the lowest free cluster and gives its number. The state then holds that cluster, and no longer
     /// `old`. A crash leaves all clusters that the last commit or the state holds as it might have left them before, and
     /// the journal's halves too. The write is not synced. The disk has room for all clusters. Full comes exactly where

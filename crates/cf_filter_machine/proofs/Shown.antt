@@ -27,12 +27,11 @@ pub shows_at : (d : State) (k : Known) (v : Volume) → At d k v → Shows k v
 shows_at d k v at =
     let used = used_now (cluster_on d.seen) v.book k.table.rows v.items k.uses at.now.rows at.now.owns in
     let sums = uses_add_up k.uses in
-    let kept = at.last.kept in
-    let fit = kept.settled.ready.size.1 in
+    let most = at.last.kept.few in
     record {
       rows = means_all (cluster_on d.seen) v.book k.table.rows v.items at.now.rows;
       blocks = blocks_are_clusters (cluster_on d.seen) v.book k.table.rows v.items at.now.rows;
-      few = omega (arith, used, sums, kept.clusters, fit);
+      few = omega (arith, used, sums, most);
       count = at.now.count;
       epoch = at.now.epoch;
     }

@@ -65,6 +65,19 @@ impl Journal {
         LEAST_SIZE <= size && size <= LARGEST_SIZE
     }
 
+    /// A journal of no disk, for a volume that keeps its points elsewhere.
+    pub fn of_no_disk() -> Journal
+        ensures { result.broken ≡ false }
+    {
+        Journal {
+            side: Side::A,
+            generation: 1,
+            format: Format::Second,
+            end: 0,
+            broken: false,
+        }
+    }
+
     /// Whether a record with a payload of so many bytes has room in the journal. None has in one of format 1, which is only
     /// read.
     pub fn fits(&self, len: usize) -> bool

@@ -56,7 +56,7 @@ pub text_on : {D A : Type 0} (acts : Acts A) (state : D → Disk) (past : Past) 
 text_on acts state past x s count epoch r counted now told h = text_at x s count epoch r counted now told (shown_on acts state past x s h)
 
 -- no disk has so many clusters that a smaller number is told
-few_clusters : (used : ℕ) → used ≤ 65536 → min used 4294967295 ≡ used
+few_clusters : (used : ℕ) → used ≤ 196608 → min used 4294967295 ≡ used
 few_clusters used few = omega (arith, few)
 
 pub used_on : {D A : Type 0} (acts : Acts A) (state : D → Disk) (past : Past) (x : Run D A) (s : State) (n : ℕ) → n ≡ min (length (clusters_in_rows x.filter.known.table.rows)) 4294967295

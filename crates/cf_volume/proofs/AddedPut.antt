@@ -11,7 +11,6 @@ use Rattle.cf_clusters.specs.Area.{KeepsWhere}
 use Rattle.cf_clusters.specs.Roles.{IsCommitted}
 use Rattle.cf_clusters.specs.declared.uses.Use.{Use}
 use Rattle.cf_disk.specs.Disk.{Leaves, State, size_of}
-use Rattle.cf_journal.specs.Settled.{IsFitSize}
 use Rattle.cf_model.specs.Blocks.{puts_into}
 use Rattle.cf_model.specs.Changes.{put_change}
 use Rattle.cf_model.specs.Items.{Item}
@@ -23,7 +22,7 @@ use Rattle.cf_volume_points.proofs.Points.{Fair}
 use Rattle.cf_volume_points.proofs.RowChanges.{found_with}
 use Rattle.cf_volume_points.proofs.Stages.{moves_none}
 use Rattle.cf_volume_points.specs.At.{At}
-use Rattle.cf_volume_points.specs.Clusters.{clusters_in_row, clusters_in_rows, once, times}
+use Rattle.cf_volume_points.specs.Clusters.{IsGroundSize, clusters_in_row, clusters_in_rows, once, times}
 use Rattle.cf_volume_points.specs.Holding.{CountsMore, FitsTable, HoldsRow}
 use Rattle.cf_volume_points.specs.Known.{Known, row_then}
 use Rattle.cf_volume_points.specs.Staging.{Moves}
@@ -65,7 +64,7 @@ module _ (s t : State) (k : Known) (p : Row) (uses : List Use) (since : ℕ) (af
 
   pub added_steady : size_of t ≡ size_of s → length uses ≡ length k.uses → All (λ j. j < length uses) (clusters_in_row p) → HasRoom p → p.number ≡ usn_after k.epoch k.place → p.anchor ≡ no_usn → Steady (size_of t) after_known
   added_steady size long inside room number anchor = subst (λ (x : Table). Steady (size_of t) (record k { uses = uses; table = x; place = k.place + 1; count = k.count + 1; put_since = since })) (sym after_is) (record {
-    fit = subst IsFitSize (sym size) steady.fit;
+    fit = subst IsGroundSize (sym size) steady.fit;
     clusters = long ∙ steady.clusters ∙ ap (λ (n : ℕ). (n - 3145728) / 4096) (sym size);
     inside = inside_with (λ j. j < length uses) p k.table.rows inside (subst (λ (n : ℕ). All (λ j. j < n) (clusters_in_rows k.table.rows)) (sym long) steady.inside);
     room = all_with HasRoom p k.table.rows room steady.room;

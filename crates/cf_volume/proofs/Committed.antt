@@ -1,5 +1,5 @@
 -- A commit of the parts of a volume.
-use Rattle.std.proofs.Common.{◌≡◌, ℕ, ◌<◌, Bool, true, false, not, eqb, List, [], ◌∷◌, map, Some, None, sym, ◌∙◌, ap, subst, arith}
+use Rattle.std.proofs.Common.{◌≡◌, ℕ, ◌<◌, Bool, true, false, not, eqb, List, [], ◌∷◌, length, map, Some, None, sym, ◌∙◌, ap, subst, arith}
 use Rattle.std.specs.Prelude.{All, ◌-◌, ◌/◌, sum_by}
 use Rattle.std.proofs.lemmas.Bool.{cond-false, eq-eqb, true≢false}
 use Rattle.std.proofs.lemmas.List.{length-map}
@@ -13,9 +13,7 @@ use Rattle.cf_clusters.specs.declared.uses.Use.{Use}
 use Rattle.cf_disk.specs.Disk.{Leaves, Only, State, size_of}
 use Rattle.cf_volume_image.specs.Contents.{image_of}
 use Rattle.cf_volume_image.specs.Spelled.{AreRecordsFrom}
-use Rattle.cf_volume_image.specs.States.{TellsIn}
-use Rattle.cf_journal.specs.Content.{Content, clusters}
-use Rattle.cf_journal.specs.Settled.{IsFitSize, Settled}
+use Rattle.cf_journal.specs.Content.{clusters}
 use Rattle.cf_journal.specs.declared.journals.Journal.{Journal}
 use Rattle.cf_model.specs.Books.{Book}
 use Rattle.cf_model.specs.Formats.{Image}
@@ -30,10 +28,10 @@ use Rattle.cf_volume_points.proofs.Points.{Fair}
 use Rattle.cf_volume_points.proofs.RowRoom.{held_count, held_len}
 use Rattle.cf_volume_points.proofs.Saves.{room_at, saving_leaves, sure_at}
 use Rattle.cf_volume_points.specs.At.{At, StandsEither}
-use Rattle.cf_volume_points.specs.Clusters.{clusters_in_rows}
+use Rattle.cf_volume_points.specs.Clusters.{IsGroundSize, clusters_in_rows}
 use Rattle.cf_volume_points.specs.Holding.{HoldRows}
 use Rattle.cf_volume_points.specs.Known.{Known}
-use Rattle.cf_volume_points.specs.Saving.{IsSaving, Saved}
+use Rattle.cf_volume_points.specs.Saving.{IsBacked, IsSavingFrom, SavedIfLeft}
 use Rattle.cf_volume_points.specs.Sound.{IsKeepable, Sound}
 use Rattle.cf_volume_points.specs.Standing.{cluster_on}
 use Rattle.cf_table.proofs.RowOfItem.{rows_have_room}
@@ -98,7 +96,7 @@ sound_parts size p steady rises table can = record {
 -- the parts after a commit
 
 pub committed_is : (k : Known) (journal : Journal) (held : List Use) (then : Earlier) (used : ℕ) → NotesNothing k.table.next then → held ≡ map committed k.uses → used ≡ how_many is_now held
-    → committed_known journal k ≡ record k { journal = journal; uses = held; rows_then = then.rows.rows; next_then = then.next; records_then = then.records; keys_made = then.made; kept = k.count; used_then = used; put_since = 0 }
+    → committed_known journal k ≡ record k { journal = journal; uses = held; rows_then = then.rows.rows; next_then = then.next; records_then = then.records; keys_made = then.made; kept = k.count; clock_then = k.clock; used_then = used; put_since = 0 }
 committed_is k journal held then used nothing uses used_is = λ i. record k {
   journal = journal;
   uses = sym uses i;
@@ -107,6 +105,7 @@ committed_is k journal held then used nothing uses used_is = λ i. record k {
   records_then = sym nothing.records i;
   keys_made = sym nothing.made i;
   kept = k.count;
+  clock_then = k.clock;
   used_then = sym (used_is ∙ ap (how_many is_now) uses) i;
   put_since = 0;
 }
@@ -115,7 +114,7 @@ pub committed_steady : (old new : State) (k : Known) (journal : Journal) → Ste
 committed_steady old new k journal steady size usable =
     let long = length-map k.uses committed in
     record {
-      fit = subst IsFitSize (sym size) steady.fit;
+      fit = subst IsGroundSize (sym size) steady.fit;
       clusters = long ∙ steady.clusters ∙ ap (λ (n : ℕ). (n - 3145728) / 4096) (sym size);
       inside = subst (λ (n : ℕ). All (λ j. j < n) (clusters_in_rows k.table.rows)) (sym long) steady.inside;
       room = steady.room;
@@ -133,32 +132,32 @@ none_left (r ∷ []) m =
 none_left (r ∷ s ∷ rs) m = absurd m.1
 
 -- What `save` asks of the last point, and what it gives then.
-abbrev Given : (State → Content → Image → Type 0) → State → Parts → Type 0
-Given P old p = (x : Content) (image : Image) → Settled p.journal old x → TellsIn x.format x.image x.payloads image → IsThen p.then p.contents image → HaveStoredPins p.contents.rows.rows → P old x image
+abbrev Given : (ℕ → Image → Type 0) → State → Parts → Type 0
+Given P old p = (n : ℕ) (image : Image) → IsBacked old p.journal n image → IsThen p.then p.contents image → HaveStoredPins p.contents.rows.rows → P n image
 
 module _ (old new : State) (p : Parts) (fair : Fair old) (steady : Steady (size_of old) (known_of p)) (rises : RisesFrom 0 p.contents.rows.rows) (table : AreTableRows p.contents.rows.rows) (can : CanBeWritten p.contents)
     (v : Volume) (at : At old (known_of p) v) (keep : IsKeepable v) where
   sound : Sound (size_of old) (known_of p)
   sound = sound_parts (size_of old) p steady rises table can
 
-  of_last : (P : State → Content → Image → Type 0) → Given P old p → P old at.last.kept.content at.last.image
-  of_last P given = given at.last.kept.content at.last.image at.last.kept.settled at.last.kept.told.told (then_is old p v at) (stored_pins old (known_of p) v at keep)
+  of_last : (P : ℕ → Image → Type 0) → Given P old p → P (length p.held) at.last.image
+  of_last P given = given (length p.held) at.last.image at.last.kept.backed (then_is old p v at) (stored_pins old (known_of p) v at keep)
 
-  pub commit_leaves : Given (λ s x image. Leaves s new (IsSaving s x (image_of p.contents))) old p → Leaves old new (StandsEither v)
-  commit_leaves crash = saving_leaves old new (known_of p) v fair at sound keep (of_last (λ s x image. Leaves s new (IsSaving s x (image_of p.contents))) crash)
+  pub commit_leaves : Given (λ n image. Leaves old new (IsSavingFrom old n image (image_of p.contents))) old p → Leaves old new (StandsEither v)
+  commit_leaves crash = saving_leaves old new (known_of p) v fair at sound keep (of_last (λ n image. Leaves old new (IsSavingFrom old n image (image_of p.contents))) crash)
 
-  module _ (journal : Journal) (held : List Use) (then : Earlier) (nothing : NotesNothing p.contents.rows.next then) (uses : held ≡ map committed p.held) (used : ℕ) (used_is : used ≡ how_many is_now held) (saved : Given (λ s x image. Saved journal new (image_of p.contents)) old p)
+  module _ (journal : Journal) (held : List Use) (then : Earlier) (nothing : NotesNothing p.contents.rows.next then) (uses : held ≡ map committed p.held) (used : ℕ) (used_is : used ≡ how_many is_now held) (saved : Given (λ n image. SavedIfLeft journal new (image_of p.contents)) old p)
       (keys : AreRecordsFrom None p.contents.records) (size : size_of new ≡ size_of old) (only : Only new.seen new) (rest : clusters new.seen ≡ clusters old.seen) where
     abbrev pub after : Known
-    after = record (known_of p) { journal = journal; uses = held; rows_then = then.rows.rows; next_then = then.next; records_then = then.records; keys_made = then.made; kept = p.contents.count; used_then = used; put_since = 0 }
+    after = record (known_of p) { journal = journal; uses = held; rows_then = then.rows.rows; next_then = then.next; records_then = then.records; keys_made = then.made; kept = p.contents.count; clock_then = p.contents.clock; used_then = used; put_since = 0 }
 
     pub commit_sure : At new after (with_sure_point v)
     commit_sure = subst (λ (k : Known). At new k (with_sure_point v)) (committed_is (known_of p) journal held then used nothing uses used_is)
-        (sure_at old new (known_of p) v fair at journal sound keep (of_last (λ s x image. Saved journal new (image_of p.contents)) saved) keys size only rest)
+        (sure_at old new (known_of p) v fair at journal sound keep (of_last (λ n image. SavedIfLeft journal new (image_of p.contents)) saved) keys size only rest)
 
     pub commit_room : At new after (with_room_point v)
     commit_room = subst (λ (k : Known). At new k (with_room_point v)) (committed_is (known_of p) journal held then used nothing uses used_is)
-        (room_at old new (known_of p) v fair at journal sound keep (of_last (λ s x image. Saved journal new (image_of p.contents)) saved) keys size only rest)
+        (room_at old new (known_of p) v fair at journal sound keep (of_last (λ n image. SavedIfLeft journal new (image_of p.contents)) saved) keys size only rest)
 
 pub not_yes : (b : Bool) → b ≡ false → b ≡ true → ⊥
 not_yes b e f = true≢false (sym f ∙ e)

@@ -146,7 +146,9 @@ module _ (s : State) (k : Known) (v : Volume) (c : Change) (at : At s k v) (kind
       points_are = at.last.points_are;
       early = let e = length-append v.log ((next_number v, c) ∷ []) in omega (arith, e, at.last.early);
       count = at.last.count;
+      clock = at.last.clock;
       image = at.last.image;
+      next = at.last.next;
       kept = subst (λ (l : List (Usn × Change)). Kept s k.journal k.uses v.epoch l at.last.point.book at.last.image) (sym (same_front at.last.point.count v.log (next_number v, c) at.last.early)) at.last.kept;
       known = record { rows = at.last.known.rows; records = at.last.known.records };
     };

@@ -16,10 +16,9 @@ use Rattle.cf_volume_points.proofs.Points.{Fair}
 use Rattle.cf_volume_points.specs.At.{At}
 use Rattle.cf_volume_points.specs.Holding.{CountsMore, FitsTable}
 use Rattle.cf_volume_points.proofs.ItemChanges.{row_holds}
-use Rattle.cf_volume_points.specs.Clusters.{clusters_in_row, clusters_in_rows}
+use Rattle.cf_volume_points.specs.Clusters.{IsGroundSize, clusters_in_row, clusters_in_rows}
 use Rattle.cf_volume_points.specs.Standing.{cluster_on}
 use Rattle.cf_volume_points.specs.Known.{Known, row_then}
-use Rattle.cf_journal.specs.Settled.{IsFitSize}
 use Rattle.cf_ranges.specs.Pairs.{cluster_at}
 use Rattle.cf_ranges.specs.Positions.{touches}
 use Rattle.cf_table.specs.Applied.{item_effect}
@@ -73,7 +72,7 @@ module _ (s t : State) (k : Known) (c : Change) (planned : Row) (blocks : List �
 
     pub planned_steady : Steady (size_of t) (record k { uses = uses; table = after; place = k.place + 1; count = k.count + 1; rows_then = then'; put_since = count })
     planned_steady = subst (λ (x : Table). Steady (size_of t) (record k { uses = uses; table = x; place = k.place + 1; count = k.count + 1; rows_then = then'; put_since = count })) (sym carries.table) (record {
-      fit = subst IsFitSize (sym carries.settles.all.moves.size) steady.fit;
+      fit = subst IsGroundSize (sym carries.settles.all.moves.size) steady.fit;
       clusters = long ∙ steady.clusters ∙ ap (λ (n : ℕ). (n - 3145728) / 4096) (sym carries.settles.all.moves.size);
       inside = inside_with (λ j. j < length uses) after_row k.table.rows extents_inside (subst (λ (n : ℕ). All (λ j. j < n) (clusters_in_rows k.table.rows)) (sym long) steady.inside);
       room = all_with HasRoom after_row k.table.rows carries.room steady.room;

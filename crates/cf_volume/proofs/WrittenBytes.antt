@@ -49,8 +49,8 @@ writes_more n m s t le p = omega (arith, le, p)
 
 -- of what is seen of a volume
 
-pub seen_counts : {D T E : Type 0} {a b : OnDisk D} (state : D → State) (r : Result T E) (t : State) → a ≡ b → Counts (commit_bytes a.known) r (state a.disk) t → Counts (commit_bytes b.known) r (state b.disk) t
-seen_counts {D} {T} {E} {a} {b} state r t e h = subst (λ (o : OnDisk D). Counts (commit_bytes o.known) r (state o.disk) t) e h
+pub seen_counts : {D T E : Type 0} {a b : OnDisk D} (state : D → State) (writes : ℕ → ℕ) (r : Result T E) (t : State) → a ≡ b → Counts (writes (commit_bytes a.known)) r (state a.disk) t → Counts (writes (commit_bytes b.known)) r (state b.disk) t
+seen_counts {D} {T} {E} {a} {b} state writes r t e h = subst (λ (o : OnDisk D). Counts (writes (commit_bytes o.known)) r (state o.disk) t) e h
 
 pub seen_writes : {D : Type 0} {a b : OnDisk D} (state : D → State) (n : Known → ℕ) (t : State) → a ≡ b → WritesAtMost (n a.known) (state a.disk) t → WritesAtMost (n b.known) (state b.disk) t
 seen_writes {D} {a} {b} state n t e h = subst (λ (o : OnDisk D). WritesAtMost (n o.known) (state o.disk) t) e h

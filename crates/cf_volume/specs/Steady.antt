@@ -3,10 +3,9 @@ use Rattle.std.specs.Prelude.{◌≡◌, ◌≤◌, ◌<◌, ◌+◌, ◌-◌, �
 use Rattle.cf_base.specs.declared.limits.TheConstants.{MOST_IMAGE_BYTES}
 use Rattle.cf_volume_image.specs.Contents.{image_of}
 use Rattle.cf_volume_image.specs.declared.contents.Contents.{Contents}
-use Rattle.cf_journal.specs.Settled.{IsFitSize}
 use Rattle.cf_model.specs.Formats.{spell_image}
 use Rattle.cf_model.specs.Numbers.{usn_after}
-use Rattle.cf_volume_points.specs.Clusters.{clusters_in_rows}
+use Rattle.cf_volume_points.specs.Clusters.{IsGroundSize, clusters_in_rows}
 use Rattle.cf_volume_points.specs.Known.{Known}
 use Rattle.cf_volume_points.specs.Lengths.{len_with}
 use Rattle.cf_ranges.specs.Positions.{IsBelow, touched}
@@ -30,16 +29,17 @@ known_of p = record {
   records_then = p.then.records;
   keys_made = p.then.made;
   kept = p.kept;
+  clock_then = p.clock_then;
   limit = p.limit;
   used_then = p.used_then;
   put_since = p.put_since;
   broken = p.broken;
 }
 
--- A disk of this size has room for the clusters, each cluster of a row is one of them, each row has room in its spelling, the
+-- A ground of this size has room for the clusters, each cluster of a row is one of them, each row has room in its spelling, the
 -- next number comes after those of all rows, the next item after those of the last point, and the journal has not failed.
 pub record Steady (size : ℕ) (k : Known) : Type 0 where
-  pub fit : IsFitSize size
+  pub fit : IsGroundSize size
   pub clusters : length k.uses ≡ (size - 3145728) / 4096
   pub inside : All (λ j. j < length k.uses) (clusters_in_rows k.table.rows)
   pub room : All HasRoom k.table.rows

@@ -18,7 +18,7 @@ use crate::record_notes::{copied, note_record};
 use crate::room::changes::is_full_now;
 use crate::room::lengths::is_too_long;
 use cf_base::{AuxRecord, Blob, CallError, Code, OutOfMemory};
-use cf_disk::Disk;
+use cf_volume_ground::Ground;
 use cf_volume_image::AuxRecords;
 use std::alloc::Global;
 
@@ -43,22 +43,22 @@ fn record_of(alloc: Global, key: &[u8], value: &[u8]) -> Result<AuxRecord, OutOf
 }
 
 /// Puts an auxiliary record in place of the one with its key, unless the table would be full.
-pub(crate) fn set_record<D: Disk>(
-    disk: &D,
+pub(crate) fn set_record<G: Ground>(
+    ground: &G,
     parts: &mut Parts,
     key: &[u8],
     value: &[u8],
 ) -> Result<(), CallError>
     requires key { length key.now ≤ 255 }
     requires value { length value.now ≤ 65535 }
-    requires steady { Steady (size_of (D.state disk.now)) (known_of parts.old) }
-    ensures ok { (v : Volume) (b : Book) → At (D.state disk.now) (known_of parts.old) v → HasRecords v.book (with_record (record { key = key.now; value = value.now }) parts.old.contents.records) b → OnOk result (At (D.state disk.now) (known_of parts.new) (record v { book = b })) }
-    ensures why { (v : Volume) (b : Book) → At (D.state disk.now) (known_of parts.old) v → HasRecords v.book (with_record (record { key = key.now; value = value.now }) parts.old.contents.records) b → IsAuxPut v b result }
+    requires steady { Steady (size_of (G.state ground.now)) (known_of parts.old) }
+    ensures ok { (v : Volume) (b : Book) → At (G.state ground.now) (known_of parts.old) v → HasRecords v.book (with_record (record { key = key.now; value = value.now }) parts.old.contents.records) b → OnOk result (At (G.state ground.now) (known_of parts.new) (record v { book = b })) }
+    ensures why { (v : Volume) (b : Book) → At (G.state ground.now) (known_of parts.old) v → HasRecords v.book (with_record (record { key = key.now; value = value.now }) parts.old.contents.records) b → IsAuxPut v b result }
     ensures kept { IsAuxKept (known_of parts.old) result (known_of parts.new) }
-    ensures steady { OnOk result (Steady (size_of (D.state disk.now)) (known_of parts.new)) }
+    ensures steady { OnOk result (Steady (size_of (G.state ground.now)) (known_of parts.new)) }
     ensures broken { parts.new.broken ≡ parts.old.broken }
 {
-    let _ = disk;
+    let _ = ground;
     let _ = parts.contents.rows.image_len();
     let _ = parts.contents.records.as_slice();
     let before = len_at(&parts.contents.records, key);
@@ -79,16 +79,20 @@ pub(crate) fn set_record<D: Disk>(
 }
 
 /// Takes the auxiliary record with a key out, if there is one.
-pub(crate) fn take_record<D: Disk>(disk: &D, parts: &mut Parts, key: &[u8]) -> Result<(), CallError>
+pub(crate) fn take_record<G: Ground>(
+    ground: &G,
+    parts: &mut Parts,
+    key: &[u8],
+) -> Result<(), CallError>
     requires key { length key.now ≤ 255 }
-    requires steady { Steady (size_of (D.state disk.now)) (known_of parts.old) }
-    ensures ok { (v : Volume) (b : Book) → At (D.state disk.now) (known_of parts.old) v → HasRecords v.book (without_record key.now parts.old.contents.records) b → OnOk result (At (D.state disk.now) (known_of parts.new) (record v { book = b })) }
-    ensures why { (v : Volume) (b : Book) → At (D.state disk.now) (known_of parts.old) v → HasRecords v.book (without_record key.now parts.old.contents.records) b → IsAuxPut v b result }
+    requires steady { Steady (size_of (G.state ground.now)) (known_of parts.old) }
+    ensures ok { (v : Volume) (b : Book) → At (G.state ground.now) (known_of parts.old) v → HasRecords v.book (without_record key.now parts.old.contents.records) b → OnOk result (At (G.state ground.now) (known_of parts.new) (record v { book = b })) }
+    ensures why { (v : Volume) (b : Book) → At (G.state ground.now) (known_of parts.old) v → HasRecords v.book (without_record key.now parts.old.contents.records) b → IsAuxPut v b result }
     ensures kept { IsAuxKept (known_of parts.old) result (known_of parts.new) }
-    ensures steady { OnOk result (Steady (size_of (D.state disk.now)) (known_of parts.new)) }
+    ensures steady { OnOk result (Steady (size_of (G.state ground.now)) (known_of parts.new)) }
     ensures broken { parts.new.broken ≡ parts.old.broken }
 {
-    let _ = disk;
+    let _ = ground;
     note_record(
         parts.alloc,
         &mut parts.then.records,
@@ -102,24 +106,24 @@ pub(crate) fn take_record<D: Disk>(disk: &D, parts: &mut Parts, key: &[u8]) -> R
 
 /// Puts an auxiliary record in place of the one with its key, unless the table would be full; where there is no value it
 /// takes the one with the key out.
-pub(crate) fn put_aux<D: Disk>(
-    disk: &D,
+pub(crate) fn put_aux<G: Ground>(
+    ground: &G,
     parts: &mut Parts,
     key: &[u8],
     value: Option<&[u8]>,
 ) -> Result<(), CallError>
     requires key { length key.now ≤ 255 }
     requires value { (b : List ℕ) → option_copied value ≡ Some b → length b ≤ 65535 }
-    requires steady { Steady (size_of (D.state disk.now)) (known_of parts.old) }
-    ensures ok { (v : Volume) (b : Book) → At (D.state disk.now) (known_of parts.old) v → HasRecords v.book (put_record key.now (option_copied value.entry) parts.old.contents.records) b → OnOk result (At (D.state disk.now) (known_of parts.new) (record v { book = b })) }
-    ensures why { (v : Volume) (b : Book) → At (D.state disk.now) (known_of parts.old) v → HasRecords v.book (put_record key.now (option_copied value.entry) parts.old.contents.records) b → IsAuxPut v b result }
+    requires steady { Steady (size_of (G.state ground.now)) (known_of parts.old) }
+    ensures ok { (v : Volume) (b : Book) → At (G.state ground.now) (known_of parts.old) v → HasRecords v.book (put_record key.now (option_copied value.entry) parts.old.contents.records) b → OnOk result (At (G.state ground.now) (known_of parts.new) (record v { book = b })) }
+    ensures why { (v : Volume) (b : Book) → At (G.state ground.now) (known_of parts.old) v → HasRecords v.book (put_record key.now (option_copied value.entry) parts.old.contents.records) b → IsAuxPut v b result }
     ensures kept { IsAuxKept (known_of parts.old) result (known_of parts.new) }
-    ensures steady { OnOk result (Steady (size_of (D.state disk.now)) (known_of parts.new)) }
+    ensures steady { OnOk result (Steady (size_of (G.state ground.now)) (known_of parts.new)) }
     ensures broken { parts.new.broken ≡ parts.old.broken }
 {
     match value {
-        Some(value) => set_record(disk, parts, key, value),
-        None => take_record(disk, parts, key),
+        Some(value) => set_record(ground, parts, key, value),
+        None => take_record(ground, parts, key),
     }
 }
 
@@ -143,20 +147,20 @@ fn put_each(
 }
 
 /// Puts auxiliary records in order, each in place of the one with its key, unless the table would be full with all of them.
-pub(crate) fn put_all<D: Disk>(
-    disk: &D,
+pub(crate) fn put_all<G: Ground>(
+    ground: &G,
     parts: &mut Parts,
     list: &[AuxRecord],
 ) -> Result<(), CallError>
     requires short { All IsShort list.now }
-    requires steady { Steady (size_of (D.state disk.now)) (known_of parts.old) }
-    ensures ok { (v : Volume) (b : Book) → At (D.state disk.now) (known_of parts.old) v → HasRecords v.book (with_records list.now parts.old.contents.records) b → OnOk result (At (D.state disk.now) (known_of parts.new) (record v { book = b })) }
-    ensures why { (v : Volume) (b : Book) → At (D.state disk.now) (known_of parts.old) v → HasRecords v.book (with_records list.now parts.old.contents.records) b → IsAuxPut v b result }
+    requires steady { Steady (size_of (G.state ground.now)) (known_of parts.old) }
+    ensures ok { (v : Volume) (b : Book) → At (G.state ground.now) (known_of parts.old) v → HasRecords v.book (with_records list.now parts.old.contents.records) b → OnOk result (At (G.state ground.now) (known_of parts.new) (record v { book = b })) }
+    ensures why { (v : Volume) (b : Book) → At (G.state ground.now) (known_of parts.old) v → HasRecords v.book (with_records list.now parts.old.contents.records) b → IsAuxPut v b result }
     ensures kept { IsAuxKept (known_of parts.old) result (known_of parts.new) }
-    ensures steady { OnOk result (Steady (size_of (D.state disk.now)) (known_of parts.new)) }
+    ensures steady { OnOk result (Steady (size_of (G.state ground.now)) (known_of parts.new)) }
     ensures broken { parts.new.broken ≡ parts.old.broken }
 {
-    if is_full_now(disk, parts, list)? {
+    if is_full_now(ground, parts, list)? {
         return Err(CallError::No(Code::TableFull));
     }
     put_each(

@@ -10,15 +10,15 @@ ghost use Rattle.cf_volume.specs.Accepted.{StaysSteady};
 ghost use Rattle.cf_volume.specs.Calls.{IsCause, Runs, StopsOnly};
 ghost use Rattle.cf_volume.specs.Notes.{NotesNothing};
 ghost use Rattle.cf_volume.specs.Steady.{Steady, known_of};
-ghost use Rattle.cf_volume.specs.Written.{IsAtPoint, commit_bytes};
+ghost use Rattle.cf_volume.specs.Written.{IsAtPoint, WritesAtMost, commit_bytes};
 
 use crate::parts::Parts;
 use crate::stop_causes::fail_of;
 use crate::written_rows::can_be_written;
 use cf_base::{CallError, Code, ItemId, OutOfMemory};
-use cf_disk::Disk;
 use cf_table::{ROOT, Rows};
-use cf_volume_commit::{Earlier, save};
+use cf_volume_commit::Earlier;
+use cf_volume_ground::Ground;
 use cf_volume_image::AuxRecords;
 use std::alloc::Global;
 
@@ -44,29 +44,30 @@ pub(crate) fn nothing_noted(alloc: Global, next: ItemId) -> Result<Earlier, OutO
 }
 
 /// Makes all that the volume says durable, which is the last point then. NotAVolume where it cannot be written.
-pub(crate) fn commit_parts<D: Disk>(disk: &mut D, parts: &mut Parts) -> Result<(), CallError>
-    requires steady { Steady (size_of (D.state disk.old)) (known_of parts.old) }
-    ensures sure { (v : Volume) → At (D.state disk.old) (known_of parts.old) v → IsKeepable v → OnOk result (At (D.state disk.new) (known_of parts.new) (with_sure_point v)) }
-    ensures room { (v : Volume) → At (D.state disk.old) (known_of parts.old) v → IsKeepable v → OnOk result (At (D.state disk.new) (known_of parts.new) (with_room_point v)) }
-    ensures only { (v : Volume) → At (D.state disk.old) (known_of parts.old) v → IfErr result StopsOnly }
-    ensures crash { (v : Volume) → At (D.state disk.old) (known_of parts.old) v → IsKeepable v → Leaves (D.state disk.old) (D.state disk.new) (StandsEither v) }
-    ensures steady { StaysSteady (size_of (D.state disk.new)) (known_of parts.new) result }
+pub(crate) fn commit_parts<G: Ground>(ground: &mut G, parts: &mut Parts) -> Result<(), CallError>
+    requires steady { Steady (size_of (G.state ground.old)) (known_of parts.old) }
+    ensures sure { (v : Volume) → At (G.state ground.old) (known_of parts.old) v → IsKeepable v → OnOk result (At (G.state ground.new) (known_of parts.new) (with_sure_point v)) }
+    ensures room { (v : Volume) → At (G.state ground.old) (known_of parts.old) v → IsKeepable v → OnOk result (At (G.state ground.new) (known_of parts.new) (with_room_point v)) }
+    ensures only { (v : Volume) → At (G.state ground.old) (known_of parts.old) v → IfErr result StopsOnly }
+    ensures crash { (v : Volume) → At (G.state ground.old) (known_of parts.old) v → IsKeepable v → Leaves (G.state ground.old) (G.state ground.new) (StandsEither v) }
+    ensures steady { StaysSteady (size_of (G.state ground.new)) (known_of parts.new) result }
     ensures kept { OnOk result (parts.new.kept ≡ parts.old.contents.count) }
     ensures noted { OnOk result (IsAtPoint (known_of parts.new)) }
-    ensures written { Counts (commit_bytes (known_of parts.old)) result (D.state disk.old) (D.state disk.new) }
-    ensures runs { Runs (D.state disk.old) (D.state disk.new) }
-    ensures cause { IfErr result (λ e. IsCause e (D.state disk.old) (D.state disk.new)) }
+    ensures written { Counts (G.writes (commit_bytes (known_of parts.old))) result (G.state ground.old) (G.state ground.new) }
+    ensures at_most { WritesAtMost (commit_bytes (known_of parts.old)) (G.state ground.old) (G.state ground.new) }
+    ensures runs { Runs (G.state ground.old) (G.state ground.new) }
+    ensures cause { IfErr result (λ e. IsCause e (G.state ground.old) (G.state ground.new)) }
     ensures contents { parts.new.contents ≡ parts.old.contents }
     ensures broken { parts.new.broken ≡ parts.old.broken }
 {
     let _ = parts.contents.rows.image_len();
+    let _ = parts.contents.records.as_slice();
     if !can_be_written(&parts.contents) {
         return Err(CallError::No(Code::NotAVolume));
     }
     let then = nothing_noted(parts.alloc, parts.contents.rows.next())?;
-    match save(
+    match ground.save(
         parts.alloc,
-        disk,
         &mut parts.journal,
         &mut parts.held,
         &parts.contents,
@@ -75,6 +76,7 @@ pub(crate) fn commit_parts<D: Disk>(disk: &mut D, parts: &mut Parts) -> Result<(
         Ok(()) => {
             parts.then = then;
             parts.kept = parts.contents.count;
+            parts.clock_then = parts.contents.clock;
             parts.used_then = parts.held.used();
             parts.put_since = 0;
             Ok(())

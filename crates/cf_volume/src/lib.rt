@@ -1,8 +1,8 @@
-//! The volume over a disk: items and a book, of which a crash leaves the last point.
+//! The volume: items and a book, of which a crash leaves the last point. A `Volume` stands on a disk, a `VolumeOn` on any ground.
 //!
-//! Contracts see a `Volume` as its disk and what is known of the volume on it (specs/Calls, `OnDisk`). Each clause speaks of
-//! any volume of the definitions that the disk and what is known are at (`At` of cf_volume_points), and of the one that they are
-//! at afterwards. A change is judged, planned and put by its kind, with a commit first where it needs room; rows and
+//! Contracts see a volume as its ground, which is a disk for a `Volume`, and what is known of the volume on it (specs/Calls,
+//! `OnDisk`). Each clause speaks of any volume of the definitions that the two are at (`At` of cf_volume_points), and of the
+//! one that they are at afterwards. A change is judged, planned and put by its kind, with a commit first where it needs room; rows and
 //! records are noted as they were at the last point, so that a commit writes what differs.
 #![tactic(auto)]
 
@@ -32,4 +32,4 @@ mod written_rows;
 pub use room::changes::Room;
 pub use room::records::are_short;
 pub use stay::limits::{MOST_IDENTITY, MOST_NAME, MOST_SIZE, fits_row};
-pub use volumes::Volume;
+pub use volumes::{Volume, VolumeOn};

@@ -26,10 +26,11 @@ ghost use Rattle.cf_volume.specs.Written.{IsAtPoint, WritesAtMost, contents_in};
 use crate::commits::nothing_noted;
 use crate::parts::Parts;
 use crate::stop_causes::fail_of;
-use crate::volumes::Volume;
-use cf_base::{CallError, ItemId};
+use crate::volumes::{Volume, VolumeOn};
+use cf_base::{CallError, ItemId, OutOfMemory};
 use cf_disk::Disk;
 use cf_volume_commit::{Earlier, Parts as Opened, create, load};
+use cf_volume_ground::{DiskGround, Ground};
 use std::alloc::Global;
 
 // The parts of a volume that was just made or opened. Nothing is noted yet.
@@ -40,6 +41,7 @@ fn parts_of(alloc: Global, mut then: Earlier, opened: Opened) -> Parts
 {
     then.next = opened.contents.rows.next();
     let kept = opened.contents.count;
+    let clock_then = opened.contents.clock;
     let used_then = opened.held.used();
     Parts {
         alloc,
@@ -48,6 +50,7 @@ fn parts_of(alloc: Global, mut then: Earlier, opened: Opened) -> Parts
         contents: opened.contents,
         then,
         kept,
+        clock_then,
         limit: opened.limit,
         used_then,
         put_since: 0,
@@ -98,7 +101,7 @@ fn load_parts<D: Disk>(alloc: Global, disk: &mut D) -> Result<Parts, CallError>
     Ok(parts_of(alloc, then, found))
 }
 
-impl<D: Disk> Volume<D> {
+impl<D: Disk> VolumeOn<DiskGround<D>> {
     /// Makes a volume on a disk of a fit size, whatever that held, and opens it: its first epoch is 1.
     pub fn format(alloc: Global, mut disk: D) -> Result<Volume<D>, (D, CallError)>
         requires { IsFitSize (size_of (D.state disk)) }
@@ -111,7 +114,10 @@ impl<D: Disk> Volume<D> {
         ensures runs_back { IfErr result (λ e. Runs (D.state disk) (D.state e.0)) }
     {
         match create_parts(alloc, &mut disk) {
-            Ok(parts) => Ok(Volume { disk, parts }),
+            Ok(parts) => Ok(VolumeOn {
+                ground: DiskGround::new(disk),
+                parts,
+            }),
             Err(fail) => Err((disk, fail)),
         }
     }
@@ -145,8 +151,37 @@ impl<D: Disk> Volume<D> {
         ensures runs_back { IfErr result (λ e. Runs (D.state disk) (D.state e.0)) }
     {
         match load_parts(alloc, &mut disk) {
-            Ok(parts) => Ok(Volume { disk, parts }),
+            Ok(parts) => Ok(VolumeOn {
+                ground: DiskGround::new(disk),
+                parts,
+            }),
             Err(fail) => Err((disk, fail)),
+        }
+    }
+}
+
+impl<G: Ground> VolumeOn<G> {
+    /// A volume on a ground, of its parts as they are at a point, since which nothing has changed. OutOfMemory where there is
+    /// none; then the ground comes back.
+    pub fn of_parts(
+        alloc: Global,
+        ground: G,
+        opened: Opened,
+    ) -> Result<VolumeOn<G>, (G, OutOfMemory)>
+        requires { Steady (size_of (G.state ground)) (loaded.known_of opened) }
+        ensures ground { IfOk result (λ w. w.disk ≡ ground) }
+        ensures known { IfOk result (λ w. w.known ≡ loaded.known_of opened) }
+        ensures noted { IfOk result (λ w. IsAtPoint w.known) }
+    {
+        match nothing_noted(alloc, ItemId(0)) {
+            Ok(then) => Ok(VolumeOn {
+                ground,
+                parts: parts_of(alloc, then, opened),
+            }),
+            Err(_) => {
+                drop(opened);
+                Err((ground, OutOfMemory))
+            }
         }
     }
 }

@@ -17,7 +17,7 @@ ghost use Rattle.cf_volume.specs.Written.{NotesOnly};
 use crate::fullness::{is_full, waits_for_room};
 use crate::parts::Parts;
 use cf_base::{CallError, Change, Code, Usn};
-use cf_disk::Disk;
+use cf_volume_ground::Ground;
 
 // How many blocks so many bytes touch from the start of a file on.
 fn block_count(bytes: u128) -> u128
@@ -45,21 +45,21 @@ pub(crate) fn clusters_asked(change: &Change) -> u128
 
 /// Puts a change of an item that is not there, and gives its number. It is refused and waits as one of an empty file does.
 /// None where it waits for a commit; then nothing is done.
-pub(crate) fn put_absent<D: Disk>(
-    disk: &D,
+pub(crate) fn put_absent<G: Ground>(
+    ground: &G,
     parts: &mut Parts,
     change: &Change,
 ) -> Result<Option<Usn>, CallError>
     requires kind { stays change.now ≡ true }
     requires none { row_of parts.old.contents.rows.rows (item_of_change change.now) ≡ None }
-    requires steady { Steady (size_of (D.state disk.now)) (known_of parts.old) }
+    requires steady { Steady (size_of (G.state ground.now)) (known_of parts.old) }
     requires place { parts.old.contents.last.place < MOST_NUMBER }
     requires count { parts.old.contents.count < 18446744073709551615 }
-    ensures put { (v : Volume) → At (D.state disk.now) (known_of parts.old) v → IsPut change.now v (D.state disk.now) (D.state disk.now) (known_of parts.new) result }
-    ensures aimed { (v : Volume) → At (D.state disk.now) (known_of parts.old) v → FollowsAim change.now v (D.state disk.now) result }
-    ensures kept { IsKept disk.now (known_of parts.old) result disk.now (known_of parts.new) }
-    ensures steady { OnOk result (Steady (size_of (D.state disk.now)) (known_of parts.new)) }
-    ensures cause { IfErr result (λ e. IsCause e (D.state disk.now) (D.state disk.now)) }
+    ensures put { (v : Volume) → At (G.state ground.now) (known_of parts.old) v → IsPut change.now v (G.state ground.now) (G.state ground.now) (known_of parts.new) result }
+    ensures aimed { (v : Volume) → At (G.state ground.now) (known_of parts.old) v → FollowsAim change.now v (G.state ground.now) result }
+    ensures kept { IsKept ground.now (known_of parts.old) result ground.now (known_of parts.new) }
+    ensures steady { OnOk result (Steady (size_of (G.state ground.now)) (known_of parts.new)) }
+    ensures cause { IfErr result (λ e. IsCause e (G.state ground.now) (G.state ground.now)) }
     ensures noted { OnOk result (NotesOnly (item_of_change change.now) (known_of parts.old) (known_of parts.new)) }
     ensures stays { OnErr result (parts.new.contents ≡ parts.old.contents) }
     ensures broken { parts.new.broken ≡ parts.old.broken }
@@ -70,7 +70,7 @@ pub(crate) fn put_absent<D: Disk>(
         return Err(CallError::No(Code::Full));
     }
     let blocks = asked as usize;
-    if waits_for_room(disk, parts, blocks)? {
+    if waits_for_room(ground, parts, blocks)? {
         return Ok(None);
     }
     parts.contents.last.place += 1;

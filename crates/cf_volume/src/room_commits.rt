@@ -26,8 +26,8 @@ use crate::remove::items::put_remove;
 use crate::row_notes::is_there;
 use crate::stay::items::put_stay;
 use cf_base::{CallError, Change, Code, Usn};
-use cf_disk::Disk;
 use cf_table::item_of;
+use cf_volume_ground::Ground;
 use cf_volume_image::Contents;
 
 /// The greatest place of an epoch.
@@ -42,93 +42,93 @@ pub(crate) fn has_place(contents: &Contents) -> bool
 }
 
 // Puts a change of an item that is no new one, and stays.
-fn put_in_place<D: Disk>(
-    disk: &mut D,
+fn put_in_place<G: Ground>(
+    ground: &mut G,
     parts: &mut Parts,
     change: &Change,
 ) -> Result<Option<Usn>, CallError>
     requires kind { stays change.now ≡ true }
-    requires steady { Steady (size_of (D.state disk.old)) (known_of parts.old) }
+    requires steady { Steady (size_of (G.state ground.old)) (known_of parts.old) }
     requires fits { Fits change.now parts.old.contents.rows.rows }
     requires place { parts.old.contents.last.place < MOST_NUMBER }
     requires count { parts.old.contents.count < 18446744073709551615 }
-    ensures judged { (v : Volume) → At (D.state disk.old) (known_of parts.old) v → IsJudged change.now v result }
-    ensures aimed { (v : Volume) → At (D.state disk.old) (known_of parts.old) v → FollowsAim change.now v (D.state disk.old) result }
-    ensures done { (v : Volume) → At (D.state disk.old) (known_of parts.old) v → IsDone change.now v (D.state disk.new) (known_of parts.new) result }
-    ensures kept { IsKept disk.old (known_of parts.old) result disk.new (known_of parts.new) }
-    ensures steady { OnOk result (Steady (size_of (D.state disk.new)) (known_of parts.new)) }
-    ensures crash { (v : Volume) → At (D.state disk.old) (known_of parts.old) v → Leaves (D.state disk.old) (D.state disk.new) (StandsLast v) }
-    ensures written { (v : Volume) → At (D.state disk.old) (known_of parts.old) v → WritesAtMost (most_of_change v.items change.now) (D.state disk.old) (D.state disk.new) }
-    ensures runs { Runs (D.state disk.old) (D.state disk.new) }
-    ensures cause { IfErr result (λ e. IsCause e (D.state disk.old) (D.state disk.new)) }
+    ensures judged { (v : Volume) → At (G.state ground.old) (known_of parts.old) v → IsJudged change.now v result }
+    ensures aimed { (v : Volume) → At (G.state ground.old) (known_of parts.old) v → FollowsAim change.now v (G.state ground.old) result }
+    ensures done { (v : Volume) → At (G.state ground.old) (known_of parts.old) v → IsDone change.now v (G.state ground.new) (known_of parts.new) result }
+    ensures kept { IsKept ground.old (known_of parts.old) result ground.new (known_of parts.new) }
+    ensures steady { OnOk result (Steady (size_of (G.state ground.new)) (known_of parts.new)) }
+    ensures crash { (v : Volume) → At (G.state ground.old) (known_of parts.old) v → Leaves (G.state ground.old) (G.state ground.new) (StandsLast v) }
+    ensures written { (v : Volume) → At (G.state ground.old) (known_of parts.old) v → WritesAtMost (most_of_change v.items change.now) (G.state ground.old) (G.state ground.new) }
+    ensures runs { Runs (G.state ground.old) (G.state ground.new) }
+    ensures cause { IfErr result (λ e. IsCause e (G.state ground.old) (G.state ground.new)) }
     ensures noted { OnOk result (NotesOnly (item_of_change change.now) (known_of parts.old) (known_of parts.new)) }
     ensures stays { OnErr result (parts.new.contents ≡ parts.old.contents) }
     ensures broken { parts.new.broken ≡ parts.old.broken }
 {
     if is_there(&parts.contents.rows, item_of(change)) {
-        put_stay(disk, parts, change)
+        put_stay(ground, parts, change)
     } else {
-        put_absent(disk, parts, change)
+        put_absent(ground, parts, change)
     }
 }
 
 // Puts a change, for which there is a number, and gives it. None where a commit has to make room first; then nothing is
 // done.
-fn accept<D: Disk>(
-    disk: &mut D,
+fn accept<G: Ground>(
+    ground: &mut G,
     parts: &mut Parts,
     change: &Change,
 ) -> Result<Option<Usn>, CallError>
-    requires steady { Steady (size_of (D.state disk.old)) (known_of parts.old) }
+    requires steady { Steady (size_of (G.state ground.old)) (known_of parts.old) }
     requires fits { Fits change.now parts.old.contents.rows.rows }
     requires next { IsNextId change.now parts.old.contents.rows.next }
     requires place { parts.old.contents.last.place < MOST_NUMBER }
     requires count { parts.old.contents.count < 18446744073709551615 }
-    ensures judged { (v : Volume) → At (D.state disk.old) (known_of parts.old) v → IsJudged change.now v result }
-    ensures aimed { (v : Volume) → At (D.state disk.old) (known_of parts.old) v → FollowsAim change.now v (D.state disk.old) result }
-    ensures done { (v : Volume) → At (D.state disk.old) (known_of parts.old) v → FitsBook change.now v.book → IsDone change.now v (D.state disk.new) (known_of parts.new) result }
-    ensures kept { IsKept disk.old (known_of parts.old) result disk.new (known_of parts.new) }
-    ensures steady { OnOk result (Steady (size_of (D.state disk.new)) (known_of parts.new)) }
-    ensures crash { (v : Volume) → At (D.state disk.old) (known_of parts.old) v → Leaves (D.state disk.old) (D.state disk.new) (StandsLast v) }
-    ensures written { (v : Volume) → At (D.state disk.old) (known_of parts.old) v → WritesAtMost (most_of_change v.items change.now) (D.state disk.old) (D.state disk.new) }
-    ensures runs { Runs (D.state disk.old) (D.state disk.new) }
-    ensures cause { IfErr result (λ e. IsCause e (D.state disk.old) (D.state disk.new)) }
+    ensures judged { (v : Volume) → At (G.state ground.old) (known_of parts.old) v → IsJudged change.now v result }
+    ensures aimed { (v : Volume) → At (G.state ground.old) (known_of parts.old) v → FollowsAim change.now v (G.state ground.old) result }
+    ensures done { (v : Volume) → At (G.state ground.old) (known_of parts.old) v → FitsBook change.now v.book → IsDone change.now v (G.state ground.new) (known_of parts.new) result }
+    ensures kept { IsKept ground.old (known_of parts.old) result ground.new (known_of parts.new) }
+    ensures steady { OnOk result (Steady (size_of (G.state ground.new)) (known_of parts.new)) }
+    ensures crash { (v : Volume) → At (G.state ground.old) (known_of parts.old) v → Leaves (G.state ground.old) (G.state ground.new) (StandsLast v) }
+    ensures written { (v : Volume) → At (G.state ground.old) (known_of parts.old) v → WritesAtMost (most_of_change v.items change.now) (G.state ground.old) (G.state ground.new) }
+    ensures runs { Runs (G.state ground.old) (G.state ground.new) }
+    ensures cause { IfErr result (λ e. IsCause e (G.state ground.old) (G.state ground.new)) }
     ensures noted { OnOk result (NotesOnly (item_of_change change.now) (known_of parts.old) (known_of parts.new)) }
     ensures stays { OnErr result (parts.new.contents ≡ parts.old.contents) }
     ensures broken { parts.new.broken ≡ parts.old.broken }
 {
     match change {
-        Change::Make { .. } => put_make(disk, parts, change),
-        Change::Copy { .. } => put_copy(disk, parts, change),
-        Change::Remove { .. } => put_remove(disk, parts, change),
-        _ => put_in_place(disk, parts, change),
+        Change::Make { .. } => put_make(ground, parts, change),
+        Change::Copy { .. } => put_copy(ground, parts, change),
+        Change::Remove { .. } => put_remove(ground, parts, change),
+        _ => put_in_place(ground, parts, change),
     }
 }
 
 // Puts a change that needs room, after a commit.
-fn accept_after_commit<D: Disk>(
-    disk: &mut D,
+fn accept_after_commit<G: Ground>(
+    ground: &mut G,
     parts: &mut Parts,
     change: &Change,
 ) -> Result<(), CallError>
-    requires steady { Steady (size_of (D.state disk.old)) (known_of parts.old) }
+    requires steady { Steady (size_of (G.state ground.old)) (known_of parts.old) }
     requires fits { Fits change.now parts.old.contents.rows.rows }
     requires next { IsNextId change.now parts.old.contents.rows.next }
     requires place { parts.old.contents.last.place < MOST_NUMBER }
     requires count { parts.old.contents.count < 18446744073709551615 }
-    ensures only { (v : Volume) → At (D.state disk.old) (known_of parts.old) v → IsKeepable v → why_no_room (change.now ∷ []) v ≡ None → IfErr result StopsOnly }
-    ensures done { (v : Volume) → At (D.state disk.old) (known_of parts.old) v → IsKeepable v → FitsBook change.now v.book → OnOk result (At (D.state disk.new) (known_of parts.new) (put_change change.now (with_room_point v))) }
-    ensures steady { StaysSteady (size_of (D.state disk.new)) (known_of parts.new) result }
-    ensures crash { (v : Volume) → At (D.state disk.old) (known_of parts.old) v → IsKeepable v → Leaves (D.state disk.old) (D.state disk.new) (StandsEither v) }
-    ensures written { (v : Volume) → At (D.state disk.old) (known_of parts.old) v → IsKeepable v → WritesAtMost (commit_bytes (known_of parts.old) + most_of_change v.items change.now) (D.state disk.old) (D.state disk.new) }
-    ensures runs { Runs (D.state disk.old) (D.state disk.new) }
-    ensures cause { IfErr result (λ e. IsCause e (D.state disk.old) (D.state disk.new)) }
+    ensures only { (v : Volume) → At (G.state ground.old) (known_of parts.old) v → IsKeepable v → why_no_room (change.now ∷ []) v ≡ None → IfErr result StopsOnly }
+    ensures done { (v : Volume) → At (G.state ground.old) (known_of parts.old) v → IsKeepable v → FitsBook change.now v.book → OnOk result (At (G.state ground.new) (known_of parts.new) (put_change change.now (with_room_point v))) }
+    ensures steady { StaysSteady (size_of (G.state ground.new)) (known_of parts.new) result }
+    ensures crash { (v : Volume) → At (G.state ground.old) (known_of parts.old) v → IsKeepable v → Leaves (G.state ground.old) (G.state ground.new) (StandsEither v) }
+    ensures written { (v : Volume) → At (G.state ground.old) (known_of parts.old) v → IsKeepable v → WritesAtMost (commit_bytes (known_of parts.old) + most_of_change v.items change.now) (G.state ground.old) (G.state ground.new) }
+    ensures runs { Runs (G.state ground.old) (G.state ground.new) }
+    ensures cause { IfErr result (λ e. IsCause e (G.state ground.old) (G.state ground.new)) }
     ensures noted { OnOk result (NotesOnly (item_of_change change.now) (known_of parts.old) (known_of parts.new)) }
     ensures stays { OnErr result (parts.new.contents ≡ parts.old.contents) }
     ensures broken { parts.new.broken ≡ parts.old.broken }
 {
-    commit_parts(disk, parts)?;
-    if accept(disk, parts, change)?.is_some() {
+    commit_parts(ground, parts)?;
+    if accept(ground, parts, change)?.is_some() {
         return Ok(());
     }
     Err(CallError::No(Code::Full))
@@ -136,25 +136,25 @@ fn accept_after_commit<D: Disk>(
 
 /// Puts a change, for which a place is left, and gives its number. A commit comes first where the change waits for
 /// one. There is no memory for a change that cannot be counted, nor where it may not wait and too few clusters are free.
-pub(crate) fn accept_with_room<D: Disk>(
-    disk: &mut D,
+pub(crate) fn accept_with_room<G: Ground>(
+    ground: &mut G,
     parts: &mut Parts,
     change: &Change,
 ) -> Result<Usn, CallError>
-    requires steady { Steady (size_of (D.state disk.old)) (known_of parts.old) }
+    requires steady { Steady (size_of (G.state ground.old)) (known_of parts.old) }
     requires fits { Fits change.now parts.old.contents.rows.rows }
     requires next { IsNextId change.now parts.old.contents.rows.next }
     requires place { parts.old.contents.last.place < MOST_NUMBER }
-    ensures why { (v : Volume) → At (D.state disk.old) (known_of parts.old) v → (may_need_room change.now v ≡ true → IsKeepable v) → Answers change.now v (record { disk = disk.old; known = known_of parts.old }) result (record { disk = disk.new; known = known_of parts.new }) }
+    ensures why { (v : Volume) → At (G.state ground.old) (known_of parts.old) v → (may_need_room change.now v ≡ true → IsKeepable v) → Answers change.now v (record { disk = ground.old; known = known_of parts.old }) result (record { disk = ground.new; known = known_of parts.new }) }
     ensures number { IfOk result (λ n. n ≡ usn_after parts.old.contents.last.epoch parts.old.contents.last.place) }
-    ensures done { (v : Volume) → At (D.state disk.old) (known_of parts.old) v → FitsBook change.now v.book → (may_need_room change.now v ≡ true → IsKeepable v) → OnOk result (Applied (D.state disk.new) (known_of parts.new) change.now v) }
-    ensures steady { StaysSteady (size_of (D.state disk.new)) (known_of parts.new) result }
-    ensures crash { (v : Volume) → At (D.state disk.old) (known_of parts.old) v → (may_need_room change.now v ≡ true → IsKeepable v) → Leaves (D.state disk.old) (D.state disk.new) (StandsEither v) }
-    ensures kept_crash { (v : Volume) → At (D.state disk.old) (known_of parts.old) v → may_need_room change.now v ≡ false → Leaves (D.state disk.old) (D.state disk.new) (StandsLast v) }
-    ensures written { (v : Volume) → At (D.state disk.old) (known_of parts.old) v → (may_need_room change.now v ≡ true → IsKeepable v) → WritesAtMost (commit_bytes (known_of parts.old) + most_of_change v.items change.now) (D.state disk.old) (D.state disk.new) }
-    ensures kept_written { (v : Volume) → At (D.state disk.old) (known_of parts.old) v → may_need_room change.now v ≡ false → WritesAtMost (most_of_change v.items change.now) (D.state disk.old) (D.state disk.new) }
-    ensures runs { Runs (D.state disk.old) (D.state disk.new) }
-    ensures cause { IfErr result (λ e. IsCause e (D.state disk.old) (D.state disk.new)) }
+    ensures done { (v : Volume) → At (G.state ground.old) (known_of parts.old) v → FitsBook change.now v.book → (may_need_room change.now v ≡ true → IsKeepable v) → OnOk result (Applied (G.state ground.new) (known_of parts.new) change.now v) }
+    ensures steady { StaysSteady (size_of (G.state ground.new)) (known_of parts.new) result }
+    ensures crash { (v : Volume) → At (G.state ground.old) (known_of parts.old) v → (may_need_room change.now v ≡ true → IsKeepable v) → Leaves (G.state ground.old) (G.state ground.new) (StandsEither v) }
+    ensures kept_crash { (v : Volume) → At (G.state ground.old) (known_of parts.old) v → may_need_room change.now v ≡ false → Leaves (G.state ground.old) (G.state ground.new) (StandsLast v) }
+    ensures written { (v : Volume) → At (G.state ground.old) (known_of parts.old) v → (may_need_room change.now v ≡ true → IsKeepable v) → WritesAtMost (commit_bytes (known_of parts.old) + most_of_change v.items change.now) (G.state ground.old) (G.state ground.new) }
+    ensures kept_written { (v : Volume) → At (G.state ground.old) (known_of parts.old) v → may_need_room change.now v ≡ false → WritesAtMost (most_of_change v.items change.now) (G.state ground.old) (G.state ground.new) }
+    ensures runs { Runs (G.state ground.old) (G.state ground.new) }
+    ensures cause { IfErr result (λ e. IsCause e (G.state ground.old) (G.state ground.new)) }
     ensures noted { OnOk result (NotesOnly (item_of_change change.now) (known_of parts.old) (known_of parts.new)) }
     ensures stays { OnErr result (parts.new.contents ≡ parts.old.contents) }
     ensures broken { parts.new.broken ≡ parts.old.broken }
@@ -167,9 +167,9 @@ pub(crate) fn accept_with_room<D: Disk>(
         epoch: last.epoch,
         place: last.place + 1,
     };
-    if accept(disk, parts, change)?.is_some() {
+    if accept(ground, parts, change)?.is_some() {
         return Ok(number);
     }
-    accept_after_commit(disk, parts, change)?;
+    accept_after_commit(ground, parts, change)?;
     Ok(number)
 }

@@ -1,4 +1,4 @@
-//! A volume on a disk, and what is read of it at once.
+//! A volume, and what is read of it at once.
 
 ghost use Rattle.std.specs.Prelude.{◌≡◌, Some, option_copied, option_map, find, true};
 ghost use Rattle.cf_clusters.specs.Roles.{how_many, is_now};
@@ -11,36 +11,40 @@ use crate::parts::Parts;
 use cf_base::{AuxRecord, ItemId};
 use cf_disk::Disk;
 use cf_table::{Row, Rows};
+use cf_volume_ground::{DiskGround, Ground};
 use cf_volume_image::AuxRecords;
 use std::marker::Model;
 
-/// A volume on a disk: items and a book, of which a crash leaves the last point. Contracts see the disk, and what is known
-/// of the volume on it.
+/// A volume: items and a book, of which a crash leaves the last point. Contracts see the ground on which it stands, and what is
+/// known of the volume on it.
 #[derive(Drop)]
-pub struct Volume<D: Disk> {
-    pub(crate) disk: D,
+pub struct VolumeOn<G: Ground> {
+    pub(crate) ground: G,
     pub(crate) parts: Parts,
 }
 
-impl<D: Disk> Model for Volume<D> {
+/// A volume on a disk. Contracts see the disk.
+pub type Volume<D> = VolumeOn<DiskGround<D>>;
+
+impl<G: Ground> Model for VolumeOn<G> {
     ghost use Rattle.std.specs.Prelude.{◌≡◌, false};
     ghost use Rattle.cf_disk.specs.Disk.{size_of};
     ghost use Rattle.cf_volume.specs.Calls.{OnDisk};
     ghost use Rattle.cf_volume.specs.Steady.{Steady, known_of};
 
-    ghost Value = { OnDisk D };
+    ghost Value = { OnDisk G };
 
-    ghost view = { λ v. record { disk = v.disk; known = known_of v.parts } };
+    ghost view = { λ v. record { disk = v.ground; known = known_of v.parts } };
 
-    ghost invariant = { λ v. v.parts.broken ≡ false → Steady (size_of (D.state v.disk)) (known_of v.parts) };
+    ghost invariant = { λ v. v.parts.broken ≡ false → Steady (size_of (G.state v.ground)) (known_of v.parts) };
 }
 
-impl<D: Disk> Volume<D> {
+impl<D: Disk> VolumeOn<DiskGround<D>> {
     /// The disk.
     pub fn into_disk(self) -> D
         ensures { result ≡ self.disk }
     {
-        self.disk
+        self.ground.into_disk()
     }
 
     /// Hands the number to the disk's `arm`, and changes nothing else.
@@ -49,9 +53,11 @@ impl<D: Disk> Volume<D> {
         ensures armed { (D.state self.new.disk).armed ≡ option_map (λ _. Some calls) (D.state self.old.disk).armed }
         ensures known { self.new.known ≡ self.old.known }
     {
-        self.disk.arm(calls);
+        self.ground.arm(calls);
     }
+}
 
+impl<G: Ground> VolumeOn<G> {
     /// The row of an item.
     pub fn row(&self, id: ItemId) -> Option<&Row>
         ensures { option_copied result ≡ row_of self.now.known.table.rows id }

@@ -22,7 +22,7 @@ use Rattle.cf_volume_image.specs.Sound.{IsSound}
 use Rattle.cf_volume_image.specs.Spelled.{AreRecordsFrom, IsImage}
 use Rattle.cf_volume_image.specs.declared.contents.Contents.{Contents}
 use Rattle.cf_journal.specs.Content.{clusters, rewritten}
-use Rattle.cf_journal.specs.Settled.{IsFitSize, Settled}
+use Rattle.cf_journal.specs.Settled.{Settled}
 use Rattle.cf_journal.specs.declared.journals.Journal.{Journal}
 use Rattle.cf_model.specs.Books.{no_book}
 use Rattle.cf_model.specs.Formats.{Image, spell_image, spell_payload}
@@ -34,8 +34,9 @@ use Rattle.cf_model.specs.State.{new_volume}
 use Rattle.cf_volume_points.proofs.Commits.{now_sound}
 use Rattle.cf_volume_points.proofs.NewKept.{new_keepable}
 use Rattle.cf_volume_points.specs.At.{At}
+use Rattle.cf_volume_points.specs.Clusters.{IsGroundSize}
 use Rattle.cf_volume_points.specs.Holding.{Holds}
-use Rattle.cf_volume_points.specs.Saving.{Saved}
+use Rattle.cf_volume_points.specs.Saving.{SavedIfLeft}
 use Rattle.cf_volume_points.specs.Sound.{Sound}
 use Rattle.cf_volume_points.specs.Standing.{cluster_on, clusters_on}
 use Rattle.cf_table.proofs.RowOfItem.{row_is_of_item}
@@ -186,7 +187,7 @@ counts_both r s m t n k a b first least most second after limit = record {
     ok (Ok x) h = h
     ok (Err e) h = tt
 
-module _ (s : State) (p : Parts) (n : ℕ) (fit : IsFitSize (size_of s)) (number : n ≡ clusters_on s.seen) (is : image_of p.contents ≡ first_image 1) (room : All HasRoom p.contents.rows.rows) (opens : Opens n [] p.held)
+module _ (s : State) (p : Parts) (n : ℕ) (fit : IsGroundSize (size_of s)) (number : n ≡ clusters_on s.seen) (is : image_of p.contents ≡ first_image 1) (room : All HasRoom p.contents.rows.rows) (opens : Opens n [] p.held)
     (m : ℕ) (limit : p.limit ≡ m) (within : m ≤ n) (rises : RisesFrom 0 p.contents.rows.rows) (kept : AreTableRows p.contents.rows.rows) where
   no_clusters : [] ≡ clusters_of (map row_value p.contents.rows.rows)
   no_clusters = sym (ap (λ (i : Image). clusters_of i.rows) is)
@@ -203,7 +204,7 @@ module _ (s : State) (p : Parts) (n : ℕ) (fit : IsFitSize (size_of s)) (number
   first_sound : IsSound (length p.held) (image_of p.contents)
   first_sound = now_sound s (known_of p) (new_volume m) first_known (new_keepable m) first_holds
 
-  pub created_at : (q : Parts) (new : State) → q.contents ≡ p.contents → q.held ≡ map committed p.held → q.limit ≡ p.limit → Saved q.journal new (image_of p.contents) → AreRecordsFrom None p.contents.records
+  pub created_at : (q : Parts) (new : State) → q.contents ≡ p.contents → q.held ≡ map committed p.held → q.limit ≡ p.limit → SavedIfLeft q.journal new (image_of p.contents) → AreRecordsFrom None p.contents.records
       → size_of new ≡ size_of s → Only new.seen new → clusters new.seen ≡ clusters s.seen → At new (known_of q) (new_volume m)
   created_at q new contents held same saved keys size only rest = raised_at p q contents held same s new (new_volume m) first_known first_sound first_holds saved keys size only rest
 

@@ -26,7 +26,7 @@ use Rattle.cf_model.specs.Formats.{Image}
 use Rattle.cf_model.specs.Numbers.{most}
 use Rattle.cf_model.specs.Standing.{Stands, clusters_of}
 use Rattle.std.specs.Prelude.{◌-◌, ◌/◌}
-use Rattle.cf_volume_points.proofs.Commits.{in_second}
+use Rattle.cf_volume_points.proofs.Commits.{fit_ground, in_second}
 use Rattle.cf_volume_points.proofs.Frames.{same_all, stands_frame}
 use Rattle.cf_volume_points.proofs.Saves.{after_stands, same_number}
 use Rattle.cf_volume_points.specs.At.{At}
@@ -80,7 +80,7 @@ module _ (old mid : State) (x : Content) (p : Parts) (f : Finds old mid x p) (fi
 
   module _ (rises : RisesFrom 0 p.contents.rows.rows) (kept : AreTableRows p.contents.rows.rows) where
     pub found_sound : Sound (size_of mid) (known_of p)
-    found_sound = sound_before mid p (subst (λ (d : List ℕ). IsFitSize (length d)) (sym f.seen) fit) (f.opens.size ∙ ap clusters_on (sym f.seen)) rises kept found_can sound_held.apart
+    found_sound = sound_before mid p (fit_ground (size_of mid) (subst (λ (d : List ℕ). IsFitSize (length d)) (sym f.seen) fit)) (f.opens.size ∙ ap clusters_on (sym f.seen)) rises kept found_can sound_held.apart
 
     module _ (e : ℕ) (log : List (Usn × Change)) (b : Book) (st : Standing e old.seen log b) where
       content_is : st.content ≡ x
@@ -134,7 +134,7 @@ module _ (old mid : State) (x : Content) (p : Parts) (f : Finds old mid x p) (fi
       pub opening_at : (q : Parts) (new : State) → q.contents ≡ p.contents → q.held ≡ map committed p.held → q.limit ≡ p.limit → Saved q.journal new (image_of p.contents) → AreRecordsFrom None p.contents.records
           → size_of new ≡ size_of mid → Only new.seen new → clusters new.seen ≡ clusters mid.seen → At new (known_of q) (opened (e + 1) log b (clusters_for old))
       opening_at q new contents held same saved keys size only rest =
-          raised_at p q contents held same mid new (opened (e + 1) log b (clusters_for old)) found_sound sound_held holds_mid saved keys size only rest
+          raised_at p q contents held same mid new (opened (e + 1) log b (clusters_for old)) found_sound sound_held holds_mid (λ image left. saved) keys size only rest
 
     pub opening_sound : (q : Parts) → q.contents ≡ p.contents → q.held ≡ map committed p.held → q.limit ≡ p.limit → Sound (size_of old) (known_of q)
     opening_sound q contents held same = sound_after p q contents held same (size_of old) (subst (λ (d : List ℕ). Sound (length d) (known_of p)) f.seen found_sound)

@@ -16,7 +16,6 @@ use Rattle.cf_volume_image.specs.Spelled.{AreRecordsFrom, IsImage}
 use Rattle.cf_volume_image.specs.States.{IsAfter}
 use Rattle.cf_volume_image.specs.declared.contents.Contents.{Contents}
 use Rattle.cf_journal.specs.Content.{Content, clusters}
-use Rattle.cf_journal.specs.Settled.{IsFitSize}
 use Rattle.cf_model.specs.Formats.{Image, is_key_removed, is_removed, spell_image, spell_payload}
 use Rattle.cf_model.specs.Rows as model
 use Rattle.cf_model.specs.Standing.{are_apart, clusters_of}
@@ -24,10 +23,10 @@ use Rattle.cf_model.specs.State.{Volume}
 use Rattle.cf_volume_points.proofs.Apart.{row_clusters}
 use Rattle.cf_volume_points.proofs.Commits.{commit_at, committed_known, image_len_is, with_points_now}
 use Rattle.cf_volume_points.specs.At.{At}
-use Rattle.cf_volume_points.specs.Clusters.{clusters_in_rows}
+use Rattle.cf_volume_points.specs.Clusters.{IsGroundSize, clusters_in_rows}
 use Rattle.cf_volume_points.specs.Holding.{Holds}
 use Rattle.cf_volume_points.specs.Known.{Known}
-use Rattle.cf_volume_points.specs.Saving.{Saved}
+use Rattle.cf_volume_points.specs.Saving.{SavedIfLeft}
 use Rattle.cf_volume_points.specs.Sound.{Sound, len_now}
 use Rattle.cf_volume_points.specs.Standing.{clusters_on}
 use Rattle.cf_table.specs.Spelling.{HasRoom, row_value}
@@ -69,7 +68,7 @@ can_be_written n c room sound = record {
 no_longer : (w n : ℕ) → w ≡ n → w ≤ 1306624 → n ≤ 1306624
 no_longer w n e le = omega (arith, e, le)
 
-pub sound_before : (s : State) (p : Parts) → IsFitSize (size_of s) → length p.held ≡ clusters_on s.seen → RisesFrom 0 p.contents.rows.rows → AreTableRows p.contents.rows.rows → CanBeWritten p.contents → are_apart (length p.held) (clusters_of (map row_value p.contents.rows.rows)) ≡ true → Sound (size_of s) (known_of p)
+pub sound_before : (s : State) (p : Parts) → IsGroundSize (size_of s) → length p.held ≡ clusters_on s.seen → RisesFrom 0 p.contents.rows.rows → AreTableRows p.contents.rows.rows → CanBeWritten p.contents → are_apart (length p.held) (clusters_of (map row_value p.contents.rows.rows)) ≡ true → Sound (size_of s) (known_of p)
 sound_before s p fit number rises kept can apart = record {
   fit = fit;
   clusters = number;
@@ -97,8 +96,8 @@ module _ (p q : Parts) (contents : q.contents ≡ p.contents) (held : q.held ≡
     short = sound.short;
   })
 
-  pub raised_at : (old new : State) (v : Volume) → Sound (size_of old) (known_of p) → IsSound (length p.held) (image_of p.contents) → Holds old (known_of p) v → Saved q.journal new (image_of p.contents) → AreRecordsFrom None p.contents.records
+  pub raised_at : (old new : State) (v : Volume) → Sound (size_of old) (known_of p) → IsSound (length p.held) (image_of p.contents) → Holds old (known_of p) v → SavedIfLeft q.journal new (image_of p.contents) → AreRecordsFrom None p.contents.records
       → size_of new ≡ size_of old → Only new.seen new → clusters new.seen ≡ clusters old.seen → At new (known_of q) (with_points_now (record { sure = true; count = length v.log; book = v.book }) [] v)
   raised_at old new v sound fit holds saved keys size only rest =
       subst (λ (k : Known). At new k (with_points_now (record { sure = true; count = length v.log; book = v.book }) [] v)) known_is
-      (commit_at old new q.journal (known_of p) v (record { sure = true; count = length v.log; book = v.book }) [] sound fit holds refl refl saved.0 saved.1 saved.2 saved.3 keys size only rest)
+      (commit_at old new q.journal (known_of p) v (record { sure = true; count = length v.log; book = v.book }) [] sound fit holds refl refl saved keys size only rest)

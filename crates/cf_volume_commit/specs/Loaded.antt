@@ -44,6 +44,7 @@ known_of p = record {
   records_then = [];
   keys_made = [];
   kept = p.contents.count;
+  clock_then = p.contents.clock;
   limit = p.limit;
   used_then = how_many is_now p.held;
   put_since = 0;

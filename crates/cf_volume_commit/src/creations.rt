@@ -30,8 +30,8 @@ use cf_volume_image::{AuxRecords, Contents, spell_image};
 use cf_volume_points::Stop;
 use std::alloc::Global;
 
-// What a new volume says of its items: there is the root alone.
-fn nothing(alloc: Global) -> Result<Contents, OutOfMemory>
+/// What a new volume says of its items: there is the root alone. Its epoch is 0. OutOfMemory where there is none.
+pub fn first_contents(alloc: Global) -> Result<Contents, OutOfMemory>
     ensures image { IfOk result (λ c. image_of c ≡ first_image 0) }
     ensures room { IfOk result (λ c. All HasRoom c.rows.rows) }
     ensures later { IfOk result (λ c. (n : Usn) → above n no_usn ≡ true → IsNext n c.rows.rows) }
@@ -87,7 +87,7 @@ pub fn create<D: Disk>(alloc: Global, disk: &mut D) -> Result<Parts, Stop>
 {
     let clusters = clusters_of_disk(disk);
     let limit = limit_of(disk, clusters);
-    let contents = nothing(alloc)?;
+    let contents = first_contents(alloc)?;
     let held = Data::new(alloc, clusters, &[])?;
     let image = spell_image(alloc, &contents)?;
     let journal = format(disk, image.as_slice())?;

@@ -17,10 +17,10 @@ mod ranges;
 mod saves;
 mod texts;
 
-pub use creations::create;
+pub use creations::{create, first_contents};
 pub use damages::{Damage, FindError};
 pub use earlier::{Earlier, bare};
 pub use findings::read_volume;
-pub use openings::load;
+pub use openings::{data_of, load};
 pub use parts::Parts;
 pub use saves::save;

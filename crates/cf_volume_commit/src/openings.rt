@@ -72,8 +72,8 @@ fn clusters_held(alloc: Global, rows: &[Row]) -> Result<Vec<u32>, OutOfMemory>
     Ok(clusters)
 }
 
-// The clusters, those of the rows held.
-fn data_of(alloc: Global, contents: &Contents, clusters: u32) -> Result<Data, OutOfMemory>
+/// So many clusters, of which those of the rows are held. OutOfMemory where there is none.
+pub fn data_of(alloc: Global, contents: &Contents, clusters: u32) -> Result<Data, OutOfMemory>
     requires { are_apart clusters (clusters_of (map row_value contents.now.rows.rows)) ≡ true }
     ensures { IfOk result (Opens clusters (clusters_of (map row_value contents.now.rows.rows))) }
 {

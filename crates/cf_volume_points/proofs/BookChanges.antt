@@ -52,7 +52,9 @@ module _ (s : State) (k : Known) (v : Volume) (b : Book) (clock : ℕ) (records 
       points_are = at.last.points_are;
       early = at.last.early;
       count = at.last.count;
+      clock = at.last.clock;
       image = at.last.image;
+      next = at.last.next;
       kept = at.last.kept;
       known = record { rows = at.last.known.rows; records = λ key. at.last.known.records key ∙ sym (known key) };
     };
@@ -138,7 +140,9 @@ module _ (s : State) (k : Known) (v : Volume) (b : Book) (id : ItemId) (r p : Ro
       points_are = at.last.points_are;
       early = at.last.early;
       count = at.last.count;
+      clock = at.last.clock;
       image = at.last.image;
+      next = at.last.next;
       kept = at.last.kept;
       known = record { rows = λ key. at.last.known.rows key ∙ ap (option_map row_value) (sym (known key)); records = at.last.known.records };
     };

@@ -21,7 +21,7 @@ use Rattle.cf_volume_image.specs.Sound.{IsSound}
 use Rattle.cf_volume_image.specs.Spelled.{AreRecordsFrom}
 use Rattle.cf_volume_image.specs.States.{IsContentsIn, Tells}
 use Rattle.cf_journal.specs.Content.{Content, clusters}
-use Rattle.cf_journal.specs.Settled.{Settled}
+use Rattle.cf_journal.specs.Settled.{IsFitSize}
 use Rattle.cf_journal.specs.declared.journals.Journal.{Journal}
 use Rattle.cf_model.proofs.LengthLaws.{image_length, in_bytes-length, record_length}
 use Rattle.cf_model.specs.Blocks.{blocks_used}
@@ -38,9 +38,10 @@ use Rattle.cf_model.specs.Standing.{AreRowsOf, AreSound, Stands, are_apart, clus
 use Rattle.cf_model.specs.State.{Point, Volume}
 use Rattle.cf_model.specs.Words.{in_bytes}
 use Rattle.cf_volume_points.specs.At.{At}
-use Rattle.cf_volume_points.specs.Clusters.{HoldsCommitted, Owns, clusters_in_rows, once, times}
+use Rattle.cf_volume_points.specs.Clusters.{HoldsCommitted, IsGroundSize, Owns, clusters_in_rows, once, times}
 use Rattle.cf_volume_points.specs.Holding.{HoldRows, Holds}
 use Rattle.cf_volume_points.specs.Known.{Known, RowsRise, row_then}
+use Rattle.cf_volume_points.specs.Saving.{SavedIfLeft}
 use Rattle.cf_volume_points.specs.Sound.{IsKeepable, Sound, header_now, image_now, last_number, len_now}
 use Rattle.cf_volume_points.specs.Standing.{AreWhole, IsBookOf, IsLogOf, cluster_on, clusters_on}
 use Rattle.cf_volume_points.proofs.Apart.{head_once, owned_apart, row_clusters}
@@ -52,6 +53,10 @@ use Rattle.cf_table.proofs.Lengths.{spelled_length}
 use Rattle.cf_table.specs.Spelling.{row_value}
 use Rattle.cf_table.specs.Tables.{RisesFrom, row_of, rows_len}
 use Rattle.cf_table.specs.declared.rows.Row.{Row}
+
+-- a disk of a fit size is large enough
+pub fit_ground : (n : ℕ) → IsFitSize n → IsGroundSize n
+fit_ground n fit = (fit.0, omega (arith, fit.1))
 
 pub records_length : (rs : List AuxRecord) → length (flat_map spell_record rs) ≡ sum_by aux_len rs
 records_length rs = length-flat_map spell_record rs ∙ ap (λ (f : AuxRecord → ℕ). sum_by f rs) (λ i x. record_length x i)
@@ -196,10 +201,10 @@ held_committed uses all (k ∷ ks) owns part =
 
 -- what is known after a commit
 abbrev pub committed_known : Journal → Known → Known
-committed_known j k = record k { journal = j; uses = map committed k.uses; rows_then = []; next_then = k.table.next; records_then = []; keys_made = []; kept = k.count; used_then = how_many is_now (map committed k.uses); put_since = 0 }
+committed_known j k = record k { journal = j; uses = map committed k.uses; rows_then = []; next_then = k.table.next; records_then = []; keys_made = []; kept = k.count; clock_then = k.clock; used_then = how_many is_now (map committed k.uses); put_since = 0 }
 
 -- no row has an id from the next one on
-below_next : (h : Header) (rows : List Row) (id : ItemId) → AreSound h (map row_value rows) → cond (ltb id.0 h.next.0) (row_of rows id) None ≡ row_of rows id
+pub below_next : (h : Header) (rows : List Row) (id : ItemId) → AreSound h (map row_value rows) → cond (ltb id.0 h.next.0) (row_of rows id) None ≡ row_of rows id
 below_next h rows id sound = by (ltb id.0 h.next.0) refl
   where
     none : (l : List Row) → AreSound h (map row_value l) → h.next.0 ≤ id.0 → row_of l id ≡ None
@@ -222,21 +227,25 @@ module _ (old new : State) (j : Journal) (k : Known) (v : Volume) (p : Point) (p
   whole_log : take p.count v.log ≡ v.log
   whole_log = take_all p.count v.log (omega (arith, count_is))
 
-  pub commit_at : (y : Content) → Settled j new y → y.format ≡ Second → Tells y.image y.payloads (image_now k) → AreRecordsFrom None k.records → size_of new ≡ size_of old → Only new.seen new → clusters new.seen ≡ clusters old.seen → At new (committed_known j k) (with_points_now p ps v)
-  commit_at y settled second tells keys size only rest = record {
+  pub commit_at : SavedIfLeft j new (image_now k) → AreRecordsFrom None k.records → size_of new ≡ size_of old → Only new.seen new → clusters new.seen ≡ clusters old.seen → At new (committed_known j k) (with_points_now p ps v)
+  commit_at saved keys size only rest = record {
     last = record {
       point = p;
       earlier = ps;
       points_are = refl;
       early = omega (arith, count_is);
       count = holds.count ∙ sym count_is;
+      clock = holds.clock ∙ ap (λ (b : Book). b.clock) (sym book_is);
       image = image_now k;
+      next = refl;
       kept = record {
-        content = y;
-        settled = settled;
-        told = in_second y (length (map committed k.uses)) (image_now k) second tells (subst (λ (n : ℕ). IsSound n (image_now k)) (sym (length-map k.uses committed)) fit);
+        backed = λ c left.
+            let s = saved c left in
+            (s.0, s.1, in_second s.0 (length (map committed k.uses)) (image_now k) s.2 s.3 (subst (λ (n : ℕ). IsSound n (image_now k)) (sym (length-map k.uses committed)) fit));
+        few = let long = length-map k.uses committed in omega (arith, long, sound.clusters, sound.fit.1);
         epoch_is = holds.epoch;
         clusters = same_count;
+        reads = at_image new.seen refl;
         stands = λ c left. at_image c (only c left);
         book = at_point (λ log b. IsBookOf (items_of log) b) (subst (λ (l : List Item). IsBookOf l v.book) holds.of_log.0 holds.book);
         given = at_point (λ log b. IsLogOf v.epoch log) (log_now old k v holds);

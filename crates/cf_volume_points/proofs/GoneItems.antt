@@ -138,9 +138,11 @@ module _ (s : State) (k : Known) (v : Volume) (id : ItemId) (uses : List Use) (r
       points_are = at.last.points_are;
       early = let e = length-append v.log ((next_number v, change.Remove id) ∷ []) in omega (arith, e, at.last.early);
       count = at.last.count;
+      clock = at.last.clock;
       image = at.last.image;
+      next = at.last.next;
       kept = subst (λ (l : List (Usn × Change)). Kept s k.journal uses v.epoch l at.last.point.book at.last.image) (sym (same_front at.last.point.count v.log (next_number v, change.Remove id) at.last.early))
-          (kept_staged s s k.journal k.uses v.epoch (take at.last.point.count v.log) at.last.point.book fair at.last.kept uses drops.long drops.committed refl refl
+          (kept_staged s s k.journal k.uses v.epoch (take at.last.point.count v.log) at.last.point.book fair at.last.kept uses drops.long drops.committed refl (record { size = refl; halves = refl; clusters = λ j lt h. refl })
           (record { later = omega arith; now = λ c left. (c, left, record { size = refl; halves = refl; clusters = λ j lt h. refl }); since = λ t c le left. inl left }));
       known = record { rows = λ key. at.last.known.rows key ∙ ap (option_map row_value) (sym (rows_known key)); records = λ key. at.last.known.records key ∙ sym (records_known key) };
     };

@@ -166,7 +166,9 @@ module _ (s t : State) (k : Known) (v : Volume) (c : Change) (r p : Row) (mid us
       points_are = at.last.points_are;
       early = let e = length-append v.log ((next_number v, c) ∷ []) in omega (arith, e, at.last.early);
       count = at.last.count;
+      clock = at.last.clock;
       image = at.last.image;
+      next = at.last.next;
       kept = subst (λ (l : List (Usn × Change)). Kept t k.journal uses v.epoch l at.last.point.book at.last.image) (sym (same_front at.last.point.count v.log (next_number v, c) at.last.early)) still;
       known = record { rows = λ id. known_rows id; records = at.last.known.records };
     };
@@ -191,7 +193,7 @@ module _ (s t : State) (k : Known) (v : Volume) (c : Change) (r p : Row) (mid us
   }
     where
       still : Kept t k.journal uses v.epoch (take at.last.point.count v.log) at.last.point.book at.last.image
-      still = kept_staged s t k.journal k.uses v.epoch (take at.last.point.count v.log) at.last.point.book fair at.last.kept uses new_clusters (λ j h. drops.committed j (moves.committed j h)) moves.size moves.halves leaves
+      still = kept_staged s t k.journal k.uses v.epoch (take at.last.point.count v.log) at.last.point.book fair at.last.kept uses new_clusters (λ j h. drops.committed j (moves.committed j h)) moves.size moves.same leaves
 
       known_rows : (id : ItemId) → find (λ q. q.id.0 == id.0) at.last.image.rows ≡ option_map row_value (row_then id then' k.next_then (row_of (with_row p k.table.rows) id))
       known_rows id = at.last.known.rows id ∙ ap (option_map row_value) (sym (known id))

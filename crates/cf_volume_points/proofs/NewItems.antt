@@ -131,7 +131,9 @@ module _ (s t : State) (k : Known) (v : Volume) (c : Change) (p : Row) (i : Item
       points_are = at.last.points_are;
       early = let e = length-append v.log ((next_number v, c) ∷ []) in omega (arith, e, at.last.early);
       count = at.last.count;
+      clock = at.last.clock;
       image = at.last.image;
+      next = at.last.next;
       kept = subst (λ (l : List (Usn × Change)). Kept t k.journal uses v.epoch l at.last.point.book at.last.image) (sym (same_front at.last.point.count v.log (next_number v, c) at.last.early)) still;
       known = record { rows = λ id. at.last.known.rows id ∙ ap (option_map row_value) (sym (known id)); records = at.last.known.records };
     };
@@ -158,4 +160,4 @@ module _ (s t : State) (k : Known) (v : Volume) (c : Change) (p : Row) (i : Item
   }
     where
       still : Kept t k.journal uses v.epoch (take at.last.point.count v.log) at.last.point.book at.last.image
-      still = kept_staged s t k.journal k.uses v.epoch (take at.last.point.count v.log) at.last.point.book fair at.last.kept uses moves.long moves.committed moves.size moves.halves leaves
+      still = kept_staged s t k.journal k.uses v.epoch (take at.last.point.count v.log) at.last.point.book fair at.last.kept uses moves.long moves.committed moves.size moves.same leaves

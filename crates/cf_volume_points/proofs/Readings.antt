@@ -15,7 +15,7 @@ use Rattle.cf_volume_points.specs.At.{At}
 use Rattle.cf_volume_points.specs.Holding.{HoldRows, HoldsRow}
 use Rattle.cf_volume_points.specs.Known.{Known}
 use Rattle.cf_volume_points.specs.Standing.{cluster_on}
-use Rattle.cf_clusters.specs.Area.{KeepsWhere}
+use Rattle.cf_clusters.specs.Area.{KeepsWhere, SameWhere}
 use Rattle.cf_clusters.specs.Roles.{IsCommitted}
 use Rattle.cf_ranges.specs.Pairs.{cluster_at}
 use Rattle.cf_table.specs.declared.rows.Row.{Row}
@@ -29,8 +29,11 @@ module _ (s t : State) (k : Known) (v : Volume) (fair : Fair s) (at : At s k v) 
       points_are = at.last.points_are;
       early = at.last.early;
       count = at.last.count;
+      clock = at.last.clock;
       image = at.last.image;
-      kept = kept_staged s t k.journal k.uses v.epoch (take at.last.point.count v.log) at.last.point.book fair at.last.kept k.uses refl (λ j h. h) (ap length keeps.seen) (ap (take 3145728) keeps.seen)
+      next = at.last.next;
+      kept = kept_staged s t k.journal k.uses v.epoch (take at.last.point.count v.log) at.last.point.book fair at.last.kept k.uses refl (λ j h. h) (ap length keeps.seen)
+          (subst (λ (l : List ℕ). SameWhere IsCommitted k.uses s.seen l) (sym keeps.seen) (record { size = refl; halves = refl; clusters = λ j lt h. refl }))
           (leaves_weaker s t s.may_leave (KeepsWhere IsCommitted k.uses s) leaves (λ c left. (c, left, record { size = refl; halves = refl; clusters = λ j lt h. refl })));
       known = at.last.known;
     };

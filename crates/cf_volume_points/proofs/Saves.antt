@@ -21,7 +21,7 @@ use Rattle.std.specs.Prelude.{true, false, None}
 use Rattle.cf_volume_points.specs.At.{At, Kept, StandsEither, StandsLast, StandsPoint}
 use Rattle.cf_volume_points.specs.Holding.{Holds}
 use Rattle.cf_volume_points.specs.Known.{Known}
-use Rattle.cf_volume_points.specs.Saving.{IsSaving, Saved}
+use Rattle.cf_volume_points.specs.Saving.{IsSavingFrom, SavedIfLeft}
 use Rattle.cf_volume_points.specs.Sound.{IsKeepable, Sound, image_now}
 use Rattle.cf_volume_points.specs.Standing.{IsBookOf, Standing, cluster_on, clusters_on}
 use Rattle.cf_volume_points.proofs.Commits.{commit_at, committed_known, in_second, log_now, now_sound, now_stands}
@@ -42,16 +42,16 @@ module _ {image : Image} (old : State) (j : Journal) (uses : List Use) (epoch : 
   number_on : (d : List ℕ) → old.may_leave d → length uses ≡ clusters_on d
   number_on d left = kept.clusters ∙ ap (λ (n : ℕ). (n - 3145728) / 4096) (sym (fair.same_size d left))
 
-  abbrev StandsBefore : List ℕ → Type 0
-  StandsBefore c = journal.Stands c kept.content × ((d : List ℕ) × old.may_leave d × (clusters c ≡ clusters d))
+  abbrev StandsBefore : Content → List ℕ → Type 0
+  StandsBefore x c = journal.Stands c x × ((d : List ℕ) × old.may_leave d × (clusters c ≡ clusters d))
 
   -- the content before
-  pub before_stands : (c : List ℕ) → StandsBefore c → Standing epoch c log b
-  before_stands c h = record {
-    content = kept.content;
+  pub before_stands : (x : Content) → IsContentsIn x.format x.image x.payloads (length uses) image → (c : List ℕ) → StandsBefore x c → Standing epoch c log b
+  before_stands x told c h = record {
+    content = x;
     image = image;
     holds = h.0;
-    told = subst (λ (n : ℕ). IsContentsIn kept.content.format kept.content.image kept.content.payloads n image) (number_on h.1.0 h.1.1 ∙ sym (same_number c h.1.0 h.1.2)) kept.told;
+    told = subst (λ (n : ℕ). IsContentsIn x.format x.image x.payloads n image) (number_on h.1.0 h.1.1 ∙ sym (same_number c h.1.0 h.1.2)) told;
     epoch_is = kept.epoch_is;
     stands = subst (λ (n : ℕ). Stands n (cluster_on c) image log b) (number_on h.1.0 h.1.1 ∙ sym (same_number c h.1.0 h.1.2))
         (stands_frame (length uses) (cluster_on h.1.0) (cluster_on c) image log b (same_all h.1.0 c h.1.2 (clusters_of image.rows)) (kept.stands h.1.0 h.1.1));
@@ -99,15 +99,15 @@ module _ (old new : State) (k : Known) (v : Volume) (fair : Fair old) (at : At o
   reading_leaves leaves = leaves_weaker old new old.may_leave (StandsLast v) leaves last_stands
 
   -- a commit
-  pub saving_leaves : Sound (size_of old) k → IsKeepable v → Leaves old new (IsSaving old at.last.kept.content (image_now k)) → Leaves old new (StandsEither v)
-  saving_leaves sound fit leaves = leaves_weaker old new (IsSaving old at.last.kept.content (image_now k)) (StandsEither v) leaves
+  pub saving_leaves : Sound (size_of old) k → IsKeepable v → Leaves old new (IsSavingFrom old (length k.uses) at.last.image (image_now k)) → Leaves old new (StandsEither v)
+  saving_leaves sound fit leaves = leaves_weaker old new (IsSavingFrom old (length k.uses) at.last.image (image_now k)) (StandsEither v) leaves
       (λ c h. ⊎_elim
-      (λ before. inl (as_last c (before_stands old k.journal k.uses v.epoch (take at.last.point.count v.log) at.last.point.book fair at.last.kept c before)))
-      (λ after. inr (after_stands old k v sound (now_sound old k v sound fit at.now) at.now c after)) h)
+      (λ before. inl (as_last c (before_stands old k.journal k.uses v.epoch (take at.last.point.count v.log) at.last.point.book fair at.last.kept h.0 h.1 c before)))
+      (λ after. inr (after_stands old k v sound (now_sound old k v sound fit at.now) at.now c after)) h.2)
 
-  module _ (j : Journal) (sound : Sound (size_of old) k) (fit : IsKeepable v) (saved : Saved j new (image_now k)) (keys : AreRecordsFrom None k.records) (size : size_of new ≡ size_of old) (only : Only new.seen new) (rest : clusters new.seen ≡ clusters old.seen) where
+  module _ (j : Journal) (sound : Sound (size_of old) k) (fit : IsKeepable v) (saved : SavedIfLeft j new (image_now k)) (keys : AreRecordsFrom None k.records) (size : size_of new ≡ size_of old) (only : Only new.seen new) (rest : clusters new.seen ≡ clusters old.seen) where
     pub sure_at : At new (committed_known j k) (with_sure_point v)
-    sure_at = commit_at old new j k v (point_now true v) [] sound (now_sound old k v sound fit at.now) at.now refl refl saved.0 saved.1 saved.2 saved.3 keys size only rest
+    sure_at = commit_at old new j k v (point_now true v) [] sound (now_sound old k v sound fit at.now) at.now refl refl saved keys size only rest
 
     pub room_at : At new (committed_known j k) (with_room_point v)
-    room_at = commit_at old new j k v (point_now false v) v.points sound (now_sound old k v sound fit at.now) at.now refl refl saved.0 saved.1 saved.2 saved.3 keys size only rest
+    room_at = commit_at old new j k v (point_now false v) v.points sound (now_sound old k v sound fit at.now) at.now refl refl saved keys size only rest

@@ -7,7 +7,7 @@ use Rattle.std.proofs.lemmas.List.Folds.{list_any-append}
 use Rattle.std.proofs.lemmas.Option.{none-some, same_Some}
 use Rattle.cf_volume_blocks.specs.Bytes.{HoldsBlock, is_among}
 use Rattle.cf_clusters.proofs.Counts.{free_staged}
-use Rattle.cf_clusters.proofs.Keeping.{committed_stays, keeps_then, same_weaker}
+use Rattle.cf_clusters.proofs.Keeping.{committed_stays, keeps_then, same_then, same_weaker}
 use Rattle.cf_clusters.specs.Area.{KeepsWhere}
 use Rattle.cf_clusters.specs.Roles.{IsCommitted, IsUsed, dropped, dropped_at, how_many, is_free, is_now, staged_at, use_of}
 use Rattle.cf_clusters.specs.declared.uses.Use.{Use}
@@ -136,25 +136,25 @@ among_push done n b = list_any-append (λ c. c == b) done (n ∷ []) ∙ ap (λ 
     one false = refl
 
 pub moves_none : (s : State) (uses : List Use) → Moves 0 s s uses uses
-moves_none s uses = record { size = refl; long = refl; halves = refl; committed = λ k h. h; free = omega arith }
+moves_none s uses = record { size = refl; long = refl; same = record { size = refl; halves = refl; clusters = λ k lt h. refl }; committed = λ k h. h; free = omega arith }
 
 pub moves_then : (n m : ℕ) (s t u : State) (a b c : List Use) → Moves n s t a b → Moves m t u b c → Moves (n + m) s u a c
 moves_then n m s t u a b c p q = record {
   size = q.size ∙ p.size;
   long = q.long ∙ p.long;
-  halves = q.halves ∙ p.halves;
+  same = same_then IsCommitted a b s.seen t.seen u.seen p.long p.committed p.same q.same;
   committed = λ k h. q.committed k (p.committed k h);
   free = omega (arith, p.free, q.free);
 }
 
 pub moves_less : (n m : ℕ) (s t : State) (a b : List Use) → n ≤ m → Moves n s t a b → Moves m s t a b
-moves_less n m s t a b le p = record { size = p.size; long = p.long; halves = p.halves; committed = p.committed; free = omega (arith, le, p.free) }
+moves_less n m s t a b le p = record { size = p.size; long = p.long; same = p.same; committed = p.committed; free = omega (arith, le, p.free) }
 
 pub stage_moves : (number : ℕ) (bytes : List ℕ) (s t : State) (old new : List Use) (es fs : List (ℕ × ℕ)) → StagesBlock number bytes s t old new es fs → Moves 1 s t old new
 stage_moves number bytes s t old new es fs st = record {
   size = st.size;
   long = ap length st.uses ∙ length-staged st.cluster (cluster_at es number) old;
-  halves = st.same.halves;
+  same = same_weaker IsUsed IsCommitted old s.seen t.seen committed_used st.same;
   committed = λ k h. subst (λ (u : List Use). IsCommitted (use_of u k)) (sym st.uses) (committed_stays old st.cluster (cluster_at es number) k st.was_free h);
   free = let e = ap (how_many is_free) st.uses in let h = free_staged old st.cluster (cluster_at es number) st.in_range st.was_free in omega (arith, e, h);
 }

@@ -6,10 +6,7 @@ use Rattle.cf_base.specs.declared.ids.Usn.{Usn}
 use Rattle.cf_clusters.specs.declared.uses.Use.{Use}
 use Rattle.cf_disk.specs.Disk.{State}
 use Rattle.cf_volume_image.specs.Spelled.{AreRecordsFrom}
-use Rattle.cf_volume_image.specs.States.{IsContentsIn}
 use Rattle.cf_journal.specs.declared.journals.Journal.{Journal}
-use Rattle.cf_journal.specs.Content.{Content}
-use Rattle.cf_journal.specs.Settled.{Settled}
 use Rattle.cf_model.specs.Books.{Book}
 use Rattle.cf_model.specs.Changes.{may_need_room, put_change}
 use Rattle.cf_model.specs.Formats.{Image}
@@ -21,18 +18,19 @@ use Rattle.cf_model.specs.Words.{same}
 use Rattle.cf_volume_points.specs.Clusters.{HoldsCommitted}
 use Rattle.cf_volume_points.specs.Holding.{Holds}
 use Rattle.cf_volume_points.specs.Known.{Known, RowsRise, record_then, row_then}
+use Rattle.cf_volume_points.specs.Saving.{IsBacked}
 use Rattle.cf_volume_points.specs.Standing.{IsBookOf, IsLogOf, Standing, cluster_on, clusters_on}
 use Rattle.cf_table.specs.Spelling.{row_value}
 use Rattle.cf_table.specs.Tables.{row_of}
 
--- Each image that a crash may leave stands for this log and book, and the last commit holds its clusters. The rows and the
--- records of the table stand in order.
+-- As it reads, and in each image that a crash may leave, the disk stands for this log and book, and the last commit holds its
+-- clusters. The rows and the records of the table stand in order. There are no more clusters than a ground may have.
 pub record Kept (s : State) (j : Journal) (uses : List Use) (epoch : ℕ) (log : List (Usn × Change)) (b : Book) (image : Image) : Type 0 where
-  pub content : Content
-  pub settled : Settled j s content
-  pub told : IsContentsIn content.format content.image content.payloads (length uses) image
+  pub backed : IsBacked s j (length uses) image
+  pub few : length uses ≤ 196608
   pub epoch_is : image.header.last.epoch ≡ epoch
   pub clusters : length uses ≡ clusters_on s.seen
+  pub reads : Stands (length uses) (cluster_on s.seen) image log b
   pub stands : (c : List ℕ) → s.may_leave c → Stands (length uses) (cluster_on c) image log b
   pub book : IsBookOf (items_of log) b
   pub given : IsLogOf epoch log
@@ -52,7 +50,9 @@ pub record Keeps (s : State) (k : Known) (v : Volume) : Type 0 where
   pub points_are : v.points ≡ point ∷ earlier
   pub early : point.count ≤ length v.log
   pub count : k.kept ≡ point.count
+  pub clock : k.clock_then ≡ point.book.clock
   pub image : Image
+  pub next : k.next_then ≡ image.header.next
   pub kept : Kept s k.journal k.uses v.epoch (take point.count v.log) point.book image
   pub known : KnowsThen k image
 

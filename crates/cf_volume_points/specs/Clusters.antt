@@ -1,5 +1,5 @@
 -- Which clusters rows name, and whose they are.
-use Rattle.std.specs.Prelude.{◌≡◌, ◌<◌, ◌+◌, ◌==◌, ℕ, cond, List, [], ◌∷◌, Option, Some, None, length, map, All, slice_index_or}
+use Rattle.std.specs.Prelude.{◌≡◌, ◌<◌, ◌≤◌, ◌+◌, ◌==◌, ℕ, cond, List, [], ◌∷◌, Option, Some, None, length, map, All, slice_index_or}
 use Rattle.std.specs.List.{flat_map}
 use Rattle.cf_clusters.specs.declared.uses.Use.{Use}
 use Rattle.cf_clusters.specs.declared.uses.Use.TheVariants.{Free}
@@ -33,3 +33,8 @@ Owns uses clusters = (k : ℕ) → times k clusters ≡ once uses k
 -- the last commit holds each of them
 abbrev pub HoldsCommitted : List Use → List ℕ → Type 0
 HoldsCommitted uses clusters = All (λ k. (k < length uses) × IsCommitted (use_of uses k)) clusters
+
+-- A size, in bytes, of what a volume may stand on: the two halves of a journal, and at most 196,608 clusters behind them, three
+-- for each that a volume may use.
+abbrev pub IsGroundSize : ℕ → Type 0
+IsGroundSize n = (3145728 ≤ n) × (n ≤ 808452096)

@@ -25,8 +25,9 @@ pub record Known : Type 0 where
   -- the same of records, and the keys of those that were not there at the last point
   pub records_then : List AuxRecord
   pub keys_made : List AuxRecord
-  -- how many changes the last point has
+  -- how many changes the last point has, and the clock then
   pub kept : ℕ
+  pub clock_then : ℕ
   -- how many clusters the volume may use, how many it used at the last point, and how many blocks changes put since
   pub limit : ℕ
   pub used_then : ℕ

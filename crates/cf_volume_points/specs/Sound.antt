@@ -3,13 +3,12 @@ use Rattle.std.specs.Prelude.{◌≡◌, ◌≤◌, ◌<◌, ◌+◌, ◌-◌, �
 use Rattle.cf_base.specs.declared.ids.ItemId.{ItemId}
 use Rattle.cf_base.specs.declared.ids.Usn.{Usn}
 use Rattle.cf_base.specs.declared.limits.TheConstants.{MOST_IMAGE_BYTES, MOST_ITEMS}
-use Rattle.cf_journal.specs.Settled.{IsFitSize}
 use Rattle.cf_model.specs.Formats.{Header, Image}
 use Rattle.cf_model.specs.Images.{aux_len}
 use Rattle.cf_model.specs.Items.{Item, item_of}
 use Rattle.cf_model.specs.Rows.{IsSoundRow, row_of}
 use Rattle.cf_model.specs.State.{Volume}
-use Rattle.cf_volume_points.specs.Clusters.{clusters_in_rows}
+use Rattle.cf_volume_points.specs.Clusters.{IsGroundSize, clusters_in_rows}
 use Rattle.cf_volume_points.specs.Known.{Known}
 use Rattle.cf_table.specs.Reading.{IsStored}
 use Rattle.cf_table.specs.Spelling.{HasRoom, row_value}
@@ -27,9 +26,9 @@ image_now k = record { header = header_now k; rows = map row_value k.table.rows;
 abbrev pub len_now : Known → ℕ
 len_now k = 41 + rows_len k.table.rows + sum_by aux_len k.records
 
--- A disk of this size has room for the clusters, and the table can be written.
+-- A ground of this size has room for the clusters, and the table can be written.
 pub record Sound (size : ℕ) (k : Known) : Type 0 where
-  pub fit : IsFitSize size
+  pub fit : IsGroundSize size
   pub clusters : length k.uses ≡ (size - 3145728) / 4096
   pub rises : RisesFrom 0 k.table.rows
   pub kept : AreTableRows k.table.rows

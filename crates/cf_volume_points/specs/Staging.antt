@@ -1,5 +1,5 @@
 -- Blocks staged into clusters, and others dropped, as a change goes on.
-use Rattle.std.specs.Prelude.{◌≡◌, ◌≢◌, ◌≤◌, ◌<◌, ◌+◌, ◌*◌, ℕ, true, false, cond, List, length, map, take, Option, Some, None, MatchOption}
+use Rattle.std.specs.Prelude.{◌≡◌, ◌≢◌, ◌≤◌, ◌<◌, ◌+◌, ◌*◌, ℕ, true, false, cond, List, length, map, Option, Some, None, MatchOption}
 use Rattle.cf_volume_blocks.specs.Bytes.{HoldsBlock, holds_at, is_among}
 use Rattle.cf_clusters.specs.Area.{SameWhere}
 use Rattle.cf_clusters.specs.Roles.{IsCommitted, IsUsed, dropped_at, how_many, is_free, staged_at, use_of}
@@ -15,11 +15,11 @@ use Rattle.cf_ranges.specs.Pairs.{IsRising, Puts, cluster_at}
 abbrev pub names : List (ℕ × ℕ) → List ℕ
 names es = map (λ (e : ℕ × ℕ). e.1) es
 
--- The journal's halves and the clusters of the last commit stay, and at most n free clusters are taken.
+-- The journal's halves and the clusters of the last commit stay, as they read too, and at most n free clusters are taken.
 pub record Moves (n : ℕ) (s t : State) (old new : List Use) : Type 0 where
   pub size : size_of t ≡ size_of s
   pub long : length new ≡ length old
-  pub halves : take 3145728 t.seen ≡ take 3145728 s.seen
+  pub same : SameWhere IsCommitted old s.seen t.seen
   pub committed : (k : ℕ) → IsCommitted (use_of old k) → IsCommitted (use_of new k)
   pub free : how_many is_free old ≤ how_many is_free new + n
 

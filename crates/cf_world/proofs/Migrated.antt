@@ -122,16 +122,16 @@ module _ (old now : Disk) (bytes : List ℕ) (held after : Option (List ℕ)) (a
 
 -- a volume that was opened
 
-pub migrated : (old new : Disk) (p : Parts) → Fair new → (i : Image) × HoldsImage old.seen i × (i.header.last.epoch < most) × (image_of p.contents ≡ raised_image i.header.last.epoch i) → HoldsSecond new.seen (image_of p.contents) → clusters new.seen ≡ clusters old.seen
+pub migrated : (old new : Disk) (p : Parts) → Fair new → new.may_leave new.seen → (i : Image) × HoldsImage old.seen i × (i.header.last.epoch < most) × (image_of p.contents ≡ raised_image i.header.last.epoch i) → HoldsSecond new.seen (image_of p.contents) → clusters new.seen ≡ clusters old.seen
     → ((e : ℕ) (log : List (Usn × Change)) (b : Book) → Standing e old.seen log b → At new (known_of p) (opened (e + 1) log b (clusters_for old))) → IsMigrated old.seen new.seen
-migrated old new p fair found holds rest ok = record {
+migrated old new p fair one found holds rest ok = record {
   image = found.0;
   held = found.1;
   below = found.2;
   holds = subst (λ (i : Image). HoldsSecond new.seen i) found.3 holds;
   clusters_are = rest;
   stands = λ e log b st. subst (λ (l : List (Usn × Change)). Standing (e + 1) new.seen l b) (take_all (length log) log (omega arith))
-      (last_stands new new (known_of p) (opened (e + 1) log b (clusters_for old)) fair (ok e log b st) new.seen fair.reads_one);
+      (last_stands new new (known_of p) (opened (e + 1) log b (clusters_for old)) fair (ok e log b st) new.seen one);
 }
 
 -- one that was not

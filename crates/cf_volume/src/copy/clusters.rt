@@ -18,83 +18,83 @@ use crate::stay::blocks::{load, put_block};
 use crate::written_rows::put_row;
 use cf_base::ItemId;
 use cf_clusters::Data;
-use cf_disk::Disk;
 use cf_ranges::ExtentMap;
 use cf_table::{Row, Rows};
+use cf_volume_ground::Ground;
 use cf_volume_points::Stop;
 
 // Stages the bytes of a cluster as a block of another file.
-fn copy_block<D: Disk>(
-    disk: &mut D,
+fn copy_block<G: Ground>(
+    ground: &mut G,
     held: &mut Data,
     cluster: u32,
     extents: &mut ExtentMap,
     number: u32,
 ) -> Result<(), Stop>
-    requires room { place (length held.old) ≤ size_of (D.state disk.old) }
+    requires room { place (length held.old) ≤ size_of (G.state ground.old) }
     requires cluster { cluster < length held.old }
     requires inside { (b k : ℕ) → cluster_at extents.old b ≡ Some k → k < length held.old }
     requires free { 0 < how_many is_free held.old }
-    ensures staged { OnOk result (StagesBlock number (cluster_on (D.state disk.old).seen cluster) (D.state disk.old) (D.state disk.new) held.old held.new extents.old extents.new) }
-    ensures crash { Leaves (D.state disk.old) (D.state disk.new) (KeepsWhere IsUsed held.old (D.state disk.old)) }
-    ensures ran { Ran 4096 (D.state disk.old) (D.state disk.new) }
-    ensures cause { IfErr result (λ e. IsStop e (D.state disk.old) (D.state disk.new)) }
+    ensures staged { OnOk result (StagesBlock number (cluster_on (G.state ground.old).seen cluster) (G.state ground.old) (G.state ground.new) held.old held.new extents.old extents.new) }
+    ensures crash { Leaves (G.state ground.old) (G.state ground.new) (KeepsWhere IsUsed held.old (G.state ground.old)) }
+    ensures ran { Ran 4096 (G.state ground.old) (G.state ground.new) }
+    ensures cause { IfErr result (λ e. IsStop e (G.state ground.old) (G.state ground.new)) }
     ensures long { length held.new ≡ length held.old }
 {
     let mut block = [0u8; 4096];
-    load(disk, held, Some(cluster), &mut block)?;
-    put_block(disk, held, extents, number, &block)?;
+    load(ground, held, Some(cluster), &mut block)?;
+    put_block(ground, held, extents, number, &block)?;
     Ok(())
 }
 
 // Stages the bytes of a file's clusters as the blocks of another, which has none yet.
-fn copy_all<D: Disk>(
-    disk: &mut D,
+fn copy_all<G: Ground>(
+    ground: &mut G,
     held: &mut Data,
     source: &[(u32, u32)],
     extents: &mut ExtentMap,
 ) -> Result<(), Stop>
-    requires room { place (length held.old) ≤ size_of (D.state disk.old) }
+    requires room { place (length held.old) ≤ size_of (G.state ground.old) }
     requires inside { All (λ k. k < length held.old) (names source.now) }
     requires none { extents.old ≡ [] }
     requires free { length source.now ≤ how_many is_free held.old }
-    ensures copied { OnOk result (CopiesAll source.now source.now (D.state disk.old) (D.state disk.new) held.old held.new extents.new) }
-    ensures crash { Leaves (D.state disk.old) (D.state disk.new) (KeepsWhere IsCommitted held.old (D.state disk.old)) }
-    ensures ran { Ran (4096 * length source.now) (D.state disk.old) (D.state disk.new) }
-    ensures cause { IfErr result (λ e. IsStop e (D.state disk.old) (D.state disk.new)) }
+    ensures copied { OnOk result (CopiesAll source.now source.now (G.state ground.old) (G.state ground.new) held.old held.new extents.new) }
+    ensures crash { Leaves (G.state ground.old) (G.state ground.new) (KeepsWhere IsCommitted held.old (G.state ground.old)) }
+    ensures ran { Ran (4096 * length source.now) (G.state ground.old) (G.state ground.new) }
+    ensures cause { IfErr result (λ e. IsStop e (G.state ground.old) (G.state ground.new)) }
     ensures long { length held.new ≡ length held.old }
 {
     for pair in source {
-        copy_block(disk, held, pair.1, extents, pair.0)?;
+        copy_block(ground, held, pair.1, extents, pair.0)?;
     }
     Ok(())
 }
 
 /// Puts the planned row of a copy of a file. Its blocks get clusters of their own, with the same bytes.
-pub(crate) fn copy_item<D: Disk>(
-    disk: &mut D,
+pub(crate) fn copy_item<G: Ground>(
+    ground: &mut G,
     held: &mut Data,
     rows: &mut Rows,
     from: ItemId,
     planned: Row,
 ) -> Result<(), Stop>
     requires there { row_of rows.old.rows from ≡ None → ⊥ }
-    requires room { place (length held.old) ≤ size_of (D.state disk.old) }
+    requires room { place (length held.old) ≤ size_of (G.state ground.old) }
     requires inside { (r : Row) → row_of rows.old.rows from ≡ Some r → All (λ k. k < length held.old) (names r.extents) }
     requires free { (r : Row) → row_of rows.old.rows from ≡ Some r → length r.extents ≤ how_many is_free held.old }
     requires none { planned.extents ≡ [] }
     requires spellable { IsSpellable planned }
-    ensures copied { OnOk result (Duplicates from planned (D.state disk.old) (D.state disk.new) held.old held.new rows.old rows.new) }
-    ensures crash { Leaves (D.state disk.old) (D.state disk.new) (KeepsWhere IsCommitted held.old (D.state disk.old)) }
-    ensures ran { (r : Row) → row_of rows.old.rows from ≡ Some r → Ran (4096 * length r.extents) (D.state disk.old) (D.state disk.new) }
-    ensures runs { Runs (D.state disk.old) (D.state disk.new) }
+    ensures copied { OnOk result (Duplicates from planned (G.state ground.old) (G.state ground.new) held.old held.new rows.old rows.new) }
+    ensures crash { Leaves (G.state ground.old) (G.state ground.new) (KeepsWhere IsCommitted held.old (G.state ground.old)) }
+    ensures ran { (r : Row) → row_of rows.old.rows from ≡ Some r → Ran (4096 * length r.extents) (G.state ground.old) (G.state ground.new) }
+    ensures runs { Runs (G.state ground.old) (G.state ground.new) }
     ensures stays { OnErr result (rows.new ≡ rows.old) }
-    ensures cause { IfErr result (λ e. IsStop e (D.state disk.old) (D.state disk.new)) }
+    ensures cause { IfErr result (λ e. IsStop e (G.state ground.old) (G.state ground.new)) }
 {
     let mut row = planned;
     match rows.get(from) {
         None => unreachable!(),
-        Some(source) => copy_all(disk, held, source.extents.pairs(), &mut row.extents)?,
+        Some(source) => copy_all(ground, held, source.extents.pairs(), &mut row.extents)?,
     }
     put_row(rows, row)?;
     Ok(())

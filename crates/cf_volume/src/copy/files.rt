@@ -33,8 +33,8 @@ use crate::make::rows::plan_copied;
 use crate::parts::Parts;
 use crate::stop_causes::fail_of;
 use cf_base::{CallError, Change, ItemId, Usn};
-use cf_disk::Disk;
 use cf_table::{Row, Rows};
+use cf_volume_ground::Ground;
 use cf_volume_points::Stop;
 
 // How many blocks of an item have a cluster.
@@ -49,14 +49,14 @@ fn block_count(rows: &Rows, id: ItemId) -> usize
 
 // Puts the planned row of a copy of a file, which has so many blocks. The clusters that it needs are free, and there is a
 // number for it.
-fn put_copied<D: Disk>(
-    disk: &mut D,
+fn put_copied<G: Ground>(
+    ground: &mut G,
     parts: &mut Parts,
     from: ItemId,
     row: Row,
     blocks: usize,
 ) -> Result<(), Stop>
-    requires steady { Steady (size_of (D.state disk.old)) (known_of parts.old) }
+    requires steady { Steady (size_of (G.state ground.old)) (known_of parts.old) }
     requires there { row_of parts.old.contents.rows.rows from ≡ None → ⊥ }
     requires free { (r : Row) → row_of parts.old.contents.rows.rows from ≡ Some r → length r.extents ≤ how_many is_free parts.old.held }
     requires blocks { (r : Row) → row_of parts.old.contents.rows.rows from ≡ Some r → blocks ≡ length r.extents }
@@ -68,19 +68,19 @@ fn put_copied<D: Disk>(
     requires number { row.number ≡ usn_after parts.old.contents.last.epoch parts.old.contents.last.place }
     requires place { parts.old.contents.last.place < MOST_NUMBER }
     requires count { parts.old.contents.count < 18446744073709551615 }
-    ensures at { (v : Volume) (c : Change) (i : Item) → At (D.state disk.old) (known_of parts.old) v → IsCopied c v row i from → FitsTable (put_change c v).items (put_change c v).book → OnOk result (At (D.state disk.new) (known_of parts.new) (put_change c v)) }
-    ensures steady { OnOk result (Steady (size_of (D.state disk.new)) (known_of parts.new)) }
-    ensures crash { Leaves (D.state disk.old) (D.state disk.new) (KeepsWhere IsCommitted parts.old.held (D.state disk.old)) }
-    ensures ran { (r : Row) → row_of parts.old.contents.rows.rows from ≡ Some r → Ran (4096 * length r.extents) (D.state disk.old) (D.state disk.new) }
-    ensures runs { Runs (D.state disk.old) (D.state disk.new) }
-    ensures cause { IfErr result (λ e. IsStop e (D.state disk.old) (D.state disk.new)) }
+    ensures at { (v : Volume) (c : Change) (i : Item) → At (G.state ground.old) (known_of parts.old) v → IsCopied c v row i from → FitsTable (put_change c v).items (put_change c v).book → OnOk result (At (G.state ground.new) (known_of parts.new) (put_change c v)) }
+    ensures steady { OnOk result (Steady (size_of (G.state ground.new)) (known_of parts.new)) }
+    ensures crash { Leaves (G.state ground.old) (G.state ground.new) (KeepsWhere IsCommitted parts.old.held (G.state ground.old)) }
+    ensures ran { (r : Row) → row_of parts.old.contents.rows.rows from ≡ Some r → Ran (4096 * length r.extents) (G.state ground.old) (G.state ground.new) }
+    ensures runs { Runs (G.state ground.old) (G.state ground.new) }
+    ensures cause { IfErr result (λ e. IsStop e (G.state ground.old) (G.state ground.new)) }
     ensures noted { OnOk result (parts.new.then ≡ parts.old.then) }
     ensures stays { OnErr result (parts.new.contents ≡ parts.old.contents) }
     ensures broken { parts.new.broken ≡ parts.old.broken }
 {
     let _ = parts.contents.rows.image_len();
     let next = ItemId(row.id.0 + 1);
-    copy_item(disk, &mut parts.held, &mut parts.contents.rows, from, row)?;
+    copy_item(ground, &mut parts.held, &mut parts.contents.rows, from, row)?;
     parts.contents.rows.set_next(next);
     parts.contents.last.place += 1;
     parts.contents.count += 1;
@@ -90,13 +90,13 @@ fn put_copied<D: Disk>(
 
 // Puts the planned row of a copy of a file, unless the change is refused, and gives its number. None where it waits for
 // a commit; then nothing is done.
-fn put_judged<D: Disk>(
-    disk: &mut D,
+fn put_judged<G: Ground>(
+    ground: &mut G,
     parts: &mut Parts,
     from: ItemId,
     row: Row,
 ) -> Result<Option<Usn>, CallError>
-    requires steady { Steady (size_of (D.state disk.old)) (known_of parts.old) }
+    requires steady { Steady (size_of (G.state ground.old)) (known_of parts.old) }
     requires there { row_of parts.old.contents.rows.rows from ≡ None → ⊥ }
     requires new { All (λ r. r.id.0 < row.id.0) parts.old.contents.rows.rows }
     requires next { parts.old.contents.rows.next.0 ≤ row.id.0 }
@@ -106,27 +106,27 @@ fn put_judged<D: Disk>(
     requires number { row.number ≡ usn_after parts.old.contents.last.epoch parts.old.contents.last.place }
     requires place { parts.old.contents.last.place < MOST_NUMBER }
     requires count { parts.old.contents.count < 18446744073709551615 }
-    ensures put { (v : Volume) (c : Change) (i : Item) → At (D.state disk.old) (known_of parts.old) v → IsCopied c v row i from → IsPut c v (D.state disk.old) (D.state disk.new) (known_of parts.new) result }
-    ensures aimed { (v : Volume) (c : Change) (i : Item) → At (D.state disk.old) (known_of parts.old) v → IsCopied c v row i from → FollowsAim c v (D.state disk.old) result }
-    ensures kept { IsKept disk.old (known_of parts.old) result disk.new (known_of parts.new) }
-    ensures steady { OnOk result (Steady (size_of (D.state disk.new)) (known_of parts.new)) }
-    ensures crash { Leaves (D.state disk.old) (D.state disk.new) (KeepsWhere IsCommitted parts.old.held (D.state disk.old)) }
-    ensures written { (v : Volume) (c : Change) (i : Item) → At (D.state disk.old) (known_of parts.old) v → IsCopied c v row i from → WritesAtMost (most_of_change v.items c) (D.state disk.old) (D.state disk.new) }
-    ensures runs { Runs (D.state disk.old) (D.state disk.new) }
-    ensures cause { IfErr result (λ e. IsCause e (D.state disk.old) (D.state disk.new)) }
+    ensures put { (v : Volume) (c : Change) (i : Item) → At (G.state ground.old) (known_of parts.old) v → IsCopied c v row i from → IsPut c v (G.state ground.old) (G.state ground.new) (known_of parts.new) result }
+    ensures aimed { (v : Volume) (c : Change) (i : Item) → At (G.state ground.old) (known_of parts.old) v → IsCopied c v row i from → FollowsAim c v (G.state ground.old) result }
+    ensures kept { IsKept ground.old (known_of parts.old) result ground.new (known_of parts.new) }
+    ensures steady { OnOk result (Steady (size_of (G.state ground.new)) (known_of parts.new)) }
+    ensures crash { Leaves (G.state ground.old) (G.state ground.new) (KeepsWhere IsCommitted parts.old.held (G.state ground.old)) }
+    ensures written { (v : Volume) (c : Change) (i : Item) → At (G.state ground.old) (known_of parts.old) v → IsCopied c v row i from → WritesAtMost (most_of_change v.items c) (G.state ground.old) (G.state ground.new) }
+    ensures runs { Runs (G.state ground.old) (G.state ground.new) }
+    ensures cause { IfErr result (λ e. IsCause e (G.state ground.old) (G.state ground.new)) }
     ensures noted { OnOk result (parts.new.then ≡ parts.old.then) }
     ensures stays { OnErr result (parts.new.contents ≡ parts.old.contents) }
     ensures broken { parts.new.broken ≡ parts.old.broken }
 {
     let number = row.number;
     let blocks = block_count(&parts.contents.rows, from);
-    if let Some(code) = refusal_of_new(disk, parts, &row, blocks) {
+    if let Some(code) = refusal_of_new(ground, parts, &row, blocks) {
         return Err(CallError::No(code));
     }
-    if waits_for_room(disk, parts, blocks)? {
+    if waits_for_room(ground, parts, blocks)? {
         return Ok(None);
     }
-    match put_copied(disk, parts, from, row, blocks) {
+    match put_copied(ground, parts, from, row, blocks) {
         Ok(()) => Ok(Some(number)),
         Err(stop) => Err(fail_of(stop)),
     }
@@ -134,25 +134,25 @@ fn put_judged<D: Disk>(
 
 /// Puts a Copy, unless it is refused, and gives its number. None where it waits for a commit; then nothing is
 /// done.
-pub(crate) fn put_copy<D: Disk>(
-    disk: &mut D,
+pub(crate) fn put_copy<G: Ground>(
+    ground: &mut G,
     parts: &mut Parts,
     change: &Change,
 ) -> Result<Option<Usn>, CallError>
     requires kind { IsCopy change.now }
-    requires steady { Steady (size_of (D.state disk.old)) (known_of parts.old) }
+    requires steady { Steady (size_of (G.state ground.old)) (known_of parts.old) }
     requires fits { Fits change.now parts.old.contents.rows.rows }
     requires next { IsNextId change.now parts.old.contents.rows.next }
     requires place { parts.old.contents.last.place < MOST_NUMBER }
     requires count { parts.old.contents.count < 18446744073709551615 }
-    ensures put { (v : Volume) → At (D.state disk.old) (known_of parts.old) v → IsPut change.now v (D.state disk.old) (D.state disk.new) (known_of parts.new) result }
-    ensures aimed { (v : Volume) → At (D.state disk.old) (known_of parts.old) v → FollowsAim change.now v (D.state disk.old) result }
-    ensures kept { IsKept disk.old (known_of parts.old) result disk.new (known_of parts.new) }
-    ensures steady { OnOk result (Steady (size_of (D.state disk.new)) (known_of parts.new)) }
-    ensures crash { Leaves (D.state disk.old) (D.state disk.new) (KeepsWhere IsCommitted parts.old.held (D.state disk.old)) }
-    ensures written { (v : Volume) → At (D.state disk.old) (known_of parts.old) v → WritesAtMost (most_of_change v.items change.now) (D.state disk.old) (D.state disk.new) }
-    ensures runs { Runs (D.state disk.old) (D.state disk.new) }
-    ensures cause { IfErr result (λ e. IsCause e (D.state disk.old) (D.state disk.new)) }
+    ensures put { (v : Volume) → At (G.state ground.old) (known_of parts.old) v → IsPut change.now v (G.state ground.old) (G.state ground.new) (known_of parts.new) result }
+    ensures aimed { (v : Volume) → At (G.state ground.old) (known_of parts.old) v → FollowsAim change.now v (G.state ground.old) result }
+    ensures kept { IsKept ground.old (known_of parts.old) result ground.new (known_of parts.new) }
+    ensures steady { OnOk result (Steady (size_of (G.state ground.new)) (known_of parts.new)) }
+    ensures crash { Leaves (G.state ground.old) (G.state ground.new) (KeepsWhere IsCommitted parts.old.held (G.state ground.old)) }
+    ensures written { (v : Volume) → At (G.state ground.old) (known_of parts.old) v → WritesAtMost (most_of_change v.items change.now) (G.state ground.old) (G.state ground.new) }
+    ensures runs { Runs (G.state ground.old) (G.state ground.new) }
+    ensures cause { IfErr result (λ e. IsCause e (G.state ground.old) (G.state ground.new)) }
     ensures noted { OnOk result (NotesOnly (item_of_change change.now) (known_of parts.old) (known_of parts.new)) }
     ensures stays { OnErr result (parts.new.contents ≡ parts.old.contents) }
     ensures broken { parts.new.broken ≡ parts.old.broken }
@@ -171,7 +171,7 @@ pub(crate) fn put_copy<D: Disk>(
         } => {
             let rows = &parts.contents.rows;
             let row = plan_copied(parts.alloc, rows, *item, *from, *parent, name, number)?;
-            put_judged(disk, parts, *from, row)
+            put_judged(ground, parts, *from, row)
         }
         _ => unreachable!(),
     }

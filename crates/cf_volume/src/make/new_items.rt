@@ -27,8 +27,8 @@ use crate::parts::Parts;
 use crate::room::lengths::{is_too_long, len_of};
 use crate::stay::clusters::tell_stored;
 use cf_base::{CallError, Change, Code, Usn};
-use cf_disk::Disk;
 use cf_table::Row;
+use cf_volume_ground::Ground;
 use cf_volume_image::Contents;
 
 /// The most rows that a table has.
@@ -43,8 +43,8 @@ fn lacks_row(contents: &Contents, row: &Row) -> bool
 }
 
 /// Why a change would be refused that makes the item of a row and needs so many clusters, where a number is left for it.
-pub(crate) fn refusal_of_new<D: Disk>(
-    disk: &D,
+pub(crate) fn refusal_of_new<G: Ground>(
+    ground: &G,
     parts: &Parts,
     row: &Row,
     blocks: usize,
@@ -53,11 +53,11 @@ pub(crate) fn refusal_of_new<D: Disk>(
     requires id { row.now.id.0 < 18446744073709551615 }
     requires anchor { row.now.anchor ≡ no_usn }
     requires place { parts.now.contents.last.place < MOST_NUMBER }
-    ensures why { (v : Volume) (c : Change) (i : Item) → At (D.state disk.now) (known_of parts.now) v → Arrives c v row.now i → length (puts_into v.items c) ≡ blocks → why_no_room (c ∷ []) v ≡ result }
-    ensures fits { IfNone result ((v : Volume) (c : Change) (i : Item) → At (D.state disk.now) (known_of parts.now) v → Arrives c v row.now i → FitsTable (put_change c v).items (put_change c v).book) }
+    ensures why { (v : Volume) (c : Change) (i : Item) → At (G.state ground.now) (known_of parts.now) v → Arrives c v row.now i → length (puts_into v.items c) ≡ blocks → why_no_room (c ∷ []) v ≡ result }
+    ensures fits { IfNone result ((v : Volume) (c : Change) (i : Item) → At (G.state ground.now) (known_of parts.now) v → Arrives c v row.now i → FitsTable (put_change c v).items (put_change c v).book) }
     ensures only { IfSome result IsFullness }
 {
-    let _ = disk;
+    let _ = ground;
     let _ = parts.contents.rows.image_len();
     let _ = tell_stored(row);
     if lacks_row(&parts.contents, row) {
@@ -70,8 +70,8 @@ pub(crate) fn refusal_of_new<D: Disk>(
 }
 
 // Puts the row of a new item without a byte, unless the change is refused, and gives its number.
-fn put_new<D: Disk>(disk: &D, parts: &mut Parts, row: Row) -> Result<Option<Usn>, CallError>
-    requires steady { Steady (size_of (D.state disk.now)) (known_of parts.old) }
+fn put_new<G: Ground>(ground: &G, parts: &mut Parts, row: Row) -> Result<Option<Usn>, CallError>
+    requires steady { Steady (size_of (G.state ground.now)) (known_of parts.old) }
     requires new { All (λ r. r.id.0 < row.id.0) parts.old.contents.rows.rows }
     requires next { parts.old.contents.rows.next.0 ≤ row.id.0 }
     requires id { row.id.0 < 18446744073709551615 }
@@ -80,40 +80,40 @@ fn put_new<D: Disk>(disk: &D, parts: &mut Parts, row: Row) -> Result<Option<Usn>
     requires number { row.number ≡ record { epoch = parts.old.contents.last.epoch; place = parts.old.contents.last.place + 1 } }
     requires place { parts.old.contents.last.place < MOST_NUMBER }
     requires count { parts.old.contents.count < 18446744073709551615 }
-    ensures put { (v : Volume) (c : Change) (i : Item) (n : ℕ) → At (D.state disk.now) (known_of parts.old) v → IsMade c v row i n → IsPut c v (D.state disk.now) (D.state disk.now) (known_of parts.new) result }
-    ensures aimed { (v : Volume) (c : Change) → puts_into v.items c ≡ [] → FollowsAim c v (D.state disk.now) result }
-    ensures kept { IsKept disk.now (known_of parts.old) result disk.now (known_of parts.new) }
-    ensures cause { IfErr result (λ e. IsCause e (D.state disk.now) (D.state disk.now)) }
-    ensures steady { OnOk result (Steady (size_of (D.state disk.now)) (known_of parts.new)) }
+    ensures put { (v : Volume) (c : Change) (i : Item) (n : ℕ) → At (G.state ground.now) (known_of parts.old) v → IsMade c v row i n → IsPut c v (G.state ground.now) (G.state ground.now) (known_of parts.new) result }
+    ensures aimed { (v : Volume) (c : Change) → puts_into v.items c ≡ [] → FollowsAim c v (G.state ground.now) result }
+    ensures kept { IsKept ground.now (known_of parts.old) result ground.now (known_of parts.new) }
+    ensures cause { IfErr result (λ e. IsCause e (G.state ground.now) (G.state ground.now)) }
+    ensures steady { OnOk result (Steady (size_of (G.state ground.now)) (known_of parts.new)) }
     ensures noted { OnOk result (parts.new.then ≡ parts.old.then) }
     ensures stays { OnErr result (parts.new.contents ≡ parts.old.contents) }
     ensures broken { parts.new.broken ≡ parts.old.broken }
 {
     let number = row.number;
-    if let Some(code) = refusal_of_new(disk, parts, &row, 0) {
+    if let Some(code) = refusal_of_new(ground, parts, &row, 0) {
         return Err(CallError::No(code));
     }
-    put_made(disk, parts, row)?;
+    put_made(ground, parts, row)?;
     Ok(Some(number))
 }
 
 /// Puts a Make, unless it is refused, and gives its number.
-pub(crate) fn put_make<D: Disk>(
-    disk: &D,
+pub(crate) fn put_make<G: Ground>(
+    ground: &G,
     parts: &mut Parts,
     change: &Change,
 ) -> Result<Option<Usn>, CallError>
     requires kind { IsMake change.now }
-    requires steady { Steady (size_of (D.state disk.now)) (known_of parts.old) }
+    requires steady { Steady (size_of (G.state ground.now)) (known_of parts.old) }
     requires fits { Fits change.now parts.old.contents.rows.rows }
     requires next { IsNextId change.now parts.old.contents.rows.next }
     requires place { parts.old.contents.last.place < MOST_NUMBER }
     requires count { parts.old.contents.count < 18446744073709551615 }
-    ensures put { (v : Volume) → At (D.state disk.now) (known_of parts.old) v → IsPut change.now v (D.state disk.now) (D.state disk.now) (known_of parts.new) result }
-    ensures aimed { (v : Volume) → FollowsAim change.now v (D.state disk.now) result }
-    ensures kept { IsKept disk.now (known_of parts.old) result disk.now (known_of parts.new) }
-    ensures cause { IfErr result (λ e. IsCause e (D.state disk.now) (D.state disk.now)) }
-    ensures steady { OnOk result (Steady (size_of (D.state disk.now)) (known_of parts.new)) }
+    ensures put { (v : Volume) → At (G.state ground.now) (known_of parts.old) v → IsPut change.now v (G.state ground.now) (G.state ground.now) (known_of parts.new) result }
+    ensures aimed { (v : Volume) → FollowsAim change.now v (G.state ground.now) result }
+    ensures kept { IsKept ground.now (known_of parts.old) result ground.now (known_of parts.new) }
+    ensures cause { IfErr result (λ e. IsCause e (G.state ground.now) (G.state ground.now)) }
+    ensures steady { OnOk result (Steady (size_of (G.state ground.now)) (known_of parts.new)) }
     ensures noted { OnOk result (NotesOnly (item_of_change change.now) (known_of parts.old) (known_of parts.new)) }
     ensures stays { OnErr result (parts.new.contents ≡ parts.old.contents) }
     ensures broken { parts.new.broken ≡ parts.old.broken }
@@ -144,7 +144,7 @@ pub(crate) fn put_make<D: Disk>(
                 identity,
                 number,
             )?;
-            put_new(disk, parts, row)
+            put_new(ground, parts, row)
         }
         _ => unreachable!(),
     }

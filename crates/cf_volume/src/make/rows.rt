@@ -23,8 +23,8 @@ use crate::kinds::pin_of;
 use crate::parts::Parts;
 use crate::written_rows::put_row;
 use cf_base::{Blob, Identity, ItemId, Kind, Name, OutOfMemory, Pin, Usn};
-use cf_disk::Disk;
 use cf_table::{Place, Row, Rows};
+use cf_volume_ground::Ground;
 use std::alloc::Global;
 
 /// Where a new item stands. `pin` is that of its parent.
@@ -96,8 +96,12 @@ pub(crate) fn plan_copied(
 }
 
 /// Puts the row of a new item without a byte, whose id is that of the next item or a later one.
-pub(crate) fn put_made<D: Disk>(disk: &D, parts: &mut Parts, row: Row) -> Result<(), OutOfMemory>
-    requires steady { Steady (size_of (D.state disk.now)) (known_of parts.old) }
+pub(crate) fn put_made<G: Ground>(
+    ground: &G,
+    parts: &mut Parts,
+    row: Row,
+) -> Result<(), OutOfMemory>
+    requires steady { Steady (size_of (G.state ground.now)) (known_of parts.old) }
     requires new { All (λ r. r.id.0 < row.id.0) parts.old.contents.rows.rows }
     requires next { parts.old.contents.rows.next.0 ≤ row.id.0 }
     requires id { row.id.0 < 18446744073709551615 }
@@ -106,13 +110,13 @@ pub(crate) fn put_made<D: Disk>(disk: &D, parts: &mut Parts, row: Row) -> Result
     requires number { row.number ≡ record { epoch = parts.old.contents.last.epoch; place = parts.old.contents.last.place + 1 } }
     requires place { parts.old.contents.last.place < MOST_NUMBER }
     requires count { parts.old.contents.count < 18446744073709551615 }
-    ensures at { (v : Volume) (c : Change) (i : Item) (n : ℕ) → At (D.state disk.now) (known_of parts.old) v → IsMade c v row i n → FitsTable (put_change c v).items (put_change c v).book → OnOk result (At (D.state disk.now) (known_of parts.new) (put_change c v)) }
-    ensures steady { OnOk result (Steady (size_of (D.state disk.now)) (known_of parts.new)) }
+    ensures at { (v : Volume) (c : Change) (i : Item) (n : ℕ) → At (G.state ground.now) (known_of parts.old) v → IsMade c v row i n → FitsTable (put_change c v).items (put_change c v).book → OnOk result (At (G.state ground.now) (known_of parts.new) (put_change c v)) }
+    ensures steady { OnOk result (Steady (size_of (G.state ground.now)) (known_of parts.new)) }
     ensures noted { OnOk result (parts.new.then ≡ parts.old.then) }
     ensures stays { OnErr result (parts.new.contents ≡ parts.old.contents) }
     ensures broken { parts.new.broken ≡ parts.old.broken }
 {
-    let _ = disk;
+    let _ = ground;
     let _ = parts.contents.rows.image_len();
     let next = ItemId(row.id.0 + 1);
     put_row(&mut parts.contents.rows, row)?;

@@ -21,8 +21,8 @@ use crate::record_notes::note_record;
 use crate::remove::rows::remove_item;
 use crate::row_notes::note_row;
 use cf_base::{Blob, CallError, Change, ItemId, OutOfMemory, Usn};
-use cf_disk::Disk;
 use cf_table::item_of;
+use cf_volume_ground::Ground;
 use std::alloc::Global;
 
 /// The key of the record of an item's path seen.
@@ -38,27 +38,27 @@ pub(crate) fn seen_key(alloc: Global, id: ItemId) -> Result<Blob, OutOfMemory>
 
 /// Puts a Remove, which needs no room, and gives its number. The item's path seen, its anchor and its last access go with
 /// it.
-pub(crate) fn put_remove<D: Disk>(
-    disk: &D,
+pub(crate) fn put_remove<G: Ground>(
+    ground: &G,
     parts: &mut Parts,
     change: &Change,
 ) -> Result<Option<Usn>, CallError>
     requires kind { IsRemove change.now }
-    requires steady { Steady (size_of (D.state disk.now)) (known_of parts.old) }
+    requires steady { Steady (size_of (G.state ground.now)) (known_of parts.old) }
     requires place { parts.old.contents.last.place < MOST_NUMBER }
     requires count { parts.old.contents.count < 18446744073709551615 }
-    ensures put { (v : Volume) → At (D.state disk.now) (known_of parts.old) v → FitsBook change.now v.book → IsPut change.now v (D.state disk.now) (D.state disk.now) (known_of parts.new) result }
-    ensures aimed { (v : Volume) → FollowsAim change.now v (D.state disk.now) result }
-    ensures why { (v : Volume) → At (D.state disk.now) (known_of parts.old) v → why_no_room (change.now ∷ []) v ≡ None }
+    ensures put { (v : Volume) → At (G.state ground.now) (known_of parts.old) v → FitsBook change.now v.book → IsPut change.now v (G.state ground.now) (G.state ground.now) (known_of parts.new) result }
+    ensures aimed { (v : Volume) → FollowsAim change.now v (G.state ground.now) result }
+    ensures why { (v : Volume) → At (G.state ground.now) (known_of parts.old) v → why_no_room (change.now ∷ []) v ≡ None }
     ensures number { IfOk result (λ n. n ≡ Some (usn_after parts.old.contents.last.epoch parts.old.contents.last.place)) }
     ensures only { IfErr result (λ e. e ≡ fail.OutOfMemory) }
-    ensures kept { IsKept disk.now (known_of parts.old) result disk.now (known_of parts.new) }
-    ensures steady { OnOk result (Steady (size_of (D.state disk.now)) (known_of parts.new)) }
+    ensures kept { IsKept ground.now (known_of parts.old) result ground.now (known_of parts.new) }
+    ensures steady { OnOk result (Steady (size_of (G.state ground.now)) (known_of parts.new)) }
     ensures noted { OnOk result (NotesOnly (item_of_change change.now) (known_of parts.old) (known_of parts.new)) }
     ensures stays { OnErr result (parts.new.contents ≡ parts.old.contents) }
     ensures broken { parts.new.broken ≡ parts.old.broken }
 {
-    let _ = disk;
+    let _ = ground;
     let _ = parts.contents.rows.image_len();
     let last = parts.contents.last;
     let id = item_of(change);

@@ -26,9 +26,9 @@ use crate::room::drafts::{Draft, draft_of};
 use crate::room::records::is_full_with;
 use crate::room::single_changes::{blocks_asked, fitting_row, lacks_table_after};
 use crate::room::tallies::{Tally, and_not, count_changes};
-use crate::volumes::Volume;
+use crate::volumes::VolumeOn;
 use cf_base::{AuxRecord, Change, OutOfMemory, Usn};
-use cf_disk::Disk;
+use cf_volume_ground::Ground;
 use std::slice;
 
 /// The greatest place of an epoch.
@@ -54,11 +54,11 @@ const NO_ROOM: Room = Room {
 };
 
 // The count of no change.
-fn first_tally<D: Disk>(disk: &D, parts: &Parts) -> Result<Tally, OutOfMemory>
-    requires steady { Steady (size_of (D.state disk.now)) (known_of parts.now) }
-    ensures { (v : model) (list : List Change) → At (D.state disk.now) (known_of parts.now) v → FitInTurn list v → IfOk result (λ t. Counts parts.now.contents parts.now.limit t list list v) }
+fn first_tally<G: Ground>(ground: &G, parts: &Parts) -> Result<Tally, OutOfMemory>
+    requires steady { Steady (size_of (G.state ground.now)) (known_of parts.now) }
+    ensures { (v : model) (list : List Change) → At (G.state ground.now) (known_of parts.now) v → FitInTurn list v → IfOk result (λ t. Counts parts.now.contents parts.now.limit t list list v) }
 {
-    let _ = disk;
+    let _ = ground;
     let _ = parts.contents.rows.image_len();
     tell_place(parts.contents.last);
     let draft = draft_of(parts.alloc, &parts.contents, &parts.held)?;
@@ -71,16 +71,16 @@ fn first_tally<D: Disk>(disk: &D, parts: &Parts) -> Result<Tally, OutOfMemory>
 }
 
 /// Whether the table would be full with these records put beside those that it has.
-pub(crate) fn is_full_now<D: Disk>(
-    disk: &D,
+pub(crate) fn is_full_now<G: Ground>(
+    ground: &G,
     parts: &Parts,
     list: &[AuxRecord],
 ) -> Result<bool, OutOfMemory>
     requires short { All IsShort list.now }
-    requires steady { Steady (size_of (D.state disk.now)) (known_of parts.now) }
-    ensures { (v : model) (b : Book) → At (D.state disk.now) (known_of parts.now) v → HasRecords v.book (with_records list.now parts.now.contents.records) b → IfOk result (λ full. full ≡ table_full v.items b) }
+    requires steady { Steady (size_of (G.state ground.now)) (known_of parts.now) }
+    ensures { (v : model) (b : Book) → At (G.state ground.now) (known_of parts.now) v → HasRecords v.book (with_records list.now parts.now.contents.records) b → IfOk result (λ full. full ≡ table_full v.items b) }
 {
-    let tally = first_tally(disk, parts)?;
+    let tally = first_tally(ground, parts)?;
     is_full_with(parts.alloc, &parts.contents, &tally.draft, list)
 }
 
@@ -116,11 +116,15 @@ fn has_numbers(last: Usn, list: &[Change]) -> bool
 }
 
 // The count of changes that would be made in order. None where they do not fit the volume.
-fn tally_of<D: Disk>(disk: &D, parts: &Parts, list: &[Change]) -> Result<Option<Tally>, OutOfMemory>
-    requires steady { Steady (size_of (D.state disk.now)) (known_of parts.now) }
-    ensures { (v : model) → At (D.state disk.now) (known_of parts.now) v → FitInTurn list.now v → IfOk result (λ tally. MatchOption tally ⊥ (λ t. Counts parts.now.contents parts.now.limit t [] list.now v)) }
+fn tally_of<G: Ground>(
+    ground: &G,
+    parts: &Parts,
+    list: &[Change],
+) -> Result<Option<Tally>, OutOfMemory>
+    requires steady { Steady (size_of (G.state ground.now)) (known_of parts.now) }
+    ensures { (v : model) → At (G.state ground.now) (known_of parts.now) v → FitInTurn list.now v → IfOk result (λ tally. MatchOption tally ⊥ (λ t. Counts parts.now.contents parts.now.limit t [] list.now v)) }
 {
-    let mut so_far = first_tally(disk, parts)?;
+    let mut so_far = first_tally(ground, parts)?;
     if !count_changes(parts.alloc, &parts.contents, parts.limit, &mut so_far, list)? {
         return Ok(None);
     }
@@ -128,11 +132,11 @@ fn tally_of<D: Disk>(disk: &D, parts: &Parts, list: &[Change]) -> Result<Option<
 }
 
 // Whether changes have room that would be made in order, by a draft.
-fn room_in_turn<D: Disk>(disk: &D, parts: &Parts, list: &[Change]) -> Result<Room, OutOfMemory>
-    requires steady { Steady (size_of (D.state disk.now)) (known_of parts.now) }
-    ensures { (v : model) → At (D.state disk.now) (known_of parts.now) v → FitInTurn list.now v → IfOk result (HasRoomFor list.now v) }
+fn room_in_turn<G: Ground>(ground: &G, parts: &Parts, list: &[Change]) -> Result<Room, OutOfMemory>
+    requires steady { Steady (size_of (G.state ground.now)) (known_of parts.now) }
+    ensures { (v : model) → At (G.state ground.now) (known_of parts.now) v → FitInTurn list.now v → IfOk result (HasRoomFor list.now v) }
 {
-    match tally_of(disk, parts, list)? {
+    match tally_of(ground, parts, list)? {
         None => Ok(NO_ROOM),
         Some(so_far) => Ok(Room {
             places: has_numbers(parts.contents.last, list),
@@ -144,19 +148,19 @@ fn room_in_turn<D: Disk>(disk: &D, parts: &Parts, list: &[Change]) -> Result<Roo
 
 // Whether one change has room, without a draft. None where a draft has to tell: the change makes or removes an item, names one
 // that is not there, does not fit its row, or finds no number.
-fn room_of_one<D: Disk>(
-    disk: &D,
+fn room_of_one<G: Ground>(
+    ground: &G,
     parts: &Parts,
     change: &Change,
 ) -> Result<Option<Room>, OutOfMemory>
-    requires steady { Steady (size_of (D.state disk.now)) (known_of parts.now) }
-    ensures { (v : model) → At (D.state disk.now) (known_of parts.now) v → IfOk result (λ room. IfSome room (HasRoomFor (change.now ∷ []) v)) }
+    requires steady { Steady (size_of (G.state ground.now)) (known_of parts.now) }
+    ensures { (v : model) → At (G.state ground.now) (known_of parts.now) v → IfOk result (λ room. IfSome room (HasRoomFor (change.now ∷ []) v)) }
 {
     match fitting_row(&parts.contents, change) {
         None => Ok(None),
         Some(row) => {
-            let blocks = blocks_asked(disk, parts, row, change)?;
-            let full = lacks_table_after(disk, parts, row, change, blocks)?;
+            let blocks = blocks_asked(ground, parts, row, change)?;
+            let full = lacks_table_after(ground, parts, row, change, blocks)?;
             Ok(Some(Room {
                 places: true,
                 table: !full,
@@ -167,24 +171,24 @@ fn room_of_one<D: Disk>(
 }
 
 // Whether one change has room.
-fn room_alone<D: Disk>(disk: &D, parts: &Parts, change: &Change) -> Result<Room, OutOfMemory>
-    requires steady { Steady (size_of (D.state disk.now)) (known_of parts.now) }
-    ensures { (v : model) → At (D.state disk.now) (known_of parts.now) v → FitInTurn (change.now ∷ []) v → IfOk result (HasRoomFor (change.now ∷ []) v) }
+fn room_alone<G: Ground>(ground: &G, parts: &Parts, change: &Change) -> Result<Room, OutOfMemory>
+    requires steady { Steady (size_of (G.state ground.now)) (known_of parts.now) }
+    ensures { (v : model) → At (G.state ground.now) (known_of parts.now) v → FitInTurn (change.now ∷ []) v → IfOk result (HasRoomFor (change.now ∷ []) v) }
 {
-    match room_of_one(disk, parts, change)? {
+    match room_of_one(ground, parts, change)? {
         Some(room) => Ok(room),
-        None => room_in_turn(disk, parts, slice::from_ref(change)),
+        None => room_in_turn(ground, parts, slice::from_ref(change)),
     }
 }
 
 // Whether changes have room that would be made in order.
-fn room_for<D: Disk>(disk: &D, parts: &Parts, list: &[Change]) -> Result<Room, OutOfMemory>
-    requires steady { Steady (size_of (D.state disk.now)) (known_of parts.now) }
-    ensures { (v : model) → At (D.state disk.now) (known_of parts.now) v → FitInTurn list.now v → IfOk result (HasRoomFor list.now v) }
+fn room_for<G: Ground>(ground: &G, parts: &Parts, list: &[Change]) -> Result<Room, OutOfMemory>
+    requires steady { Steady (size_of (G.state ground.now)) (known_of parts.now) }
+    ensures { (v : model) → At (G.state ground.now) (known_of parts.now) v → FitInTurn list.now v → IfOk result (HasRoomFor list.now v) }
 {
     match list {
-        [change] => room_alone(disk, parts, change),
-        _ => room_in_turn(disk, parts, list),
+        [change] => room_alone(ground, parts, change),
+        _ => room_in_turn(ground, parts, list),
     }
 }
 
@@ -215,17 +219,17 @@ fn is_full_after(
 }
 
 // Whether changes have room that would be made in order, with records beside the last.
-fn room_beside<D: Disk>(
-    disk: &D,
+fn room_beside<G: Ground>(
+    ground: &G,
     parts: &Parts,
     list: &[Change],
     records: &[AuxRecord],
 ) -> Result<Room, OutOfMemory>
     requires short { All IsShort records.now }
-    requires steady { Steady (size_of (D.state disk.now)) (known_of parts.now) }
-    ensures { (v : model) (b : Book) → At (D.state disk.now) (known_of parts.now) v → FitInTurn list.now v → HasBeside (put_changes list.now v).book records.now b → IfOk result (HasRoomWith list.now b v) }
+    requires steady { Steady (size_of (G.state ground.now)) (known_of parts.now) }
+    ensures { (v : model) (b : Book) → At (G.state ground.now) (known_of parts.now) v → FitInTurn list.now v → HasBeside (put_changes list.now v).book records.now b → IfOk result (HasRoomWith list.now b v) }
 {
-    match tally_of(disk, parts, list)? {
+    match tally_of(ground, parts, list)? {
         None => Ok(NO_ROOM),
         Some(so_far) => {
             let full = is_full_after(parts, &so_far.draft, list, records)?;
@@ -238,17 +242,17 @@ fn room_beside<D: Disk>(
     }
 }
 
-impl<D: Disk> Volume<D> {
+impl<G: Ground> VolumeOn<G> {
     /// Whether changes have room that would be made in order. An id past the greatest is want of a place. Nothing changes,
     /// and no row is looked at but those of the items that the changes name. OutOfMemory also where an earlier call broke the
     /// volume, and in the last epoch where that has too few places for the changes.
     pub fn room(&self, list: &[Change]) -> Result<Room, OutOfMemory>
-        ensures { (v : model) → At (D.state self.now.disk) self.now.known v → FitInTurn list.now v → IfOk result (HasRoomFor list.now v) }
+        ensures { (v : model) → At (G.state self.now.disk) self.now.known v → FitInTurn list.now v → IfOk result (HasRoomFor list.now v) }
     {
         if self.parts.broken {
             return Err(OutOfMemory);
         }
-        room_for(&self.disk, &self.parts, list)
+        room_for(&self.ground, &self.parts, list)
     }
 
     /// The same, with auxiliary records put beside the last change, in order and in the same step: the table has room where it
@@ -260,17 +264,17 @@ impl<D: Disk> Volume<D> {
         records: &[AuxRecord],
     ) -> Result<Room, OutOfMemory>
         requires short { All IsShort records.now }
-        ensures { (v : model) (b : Book) → At (D.state self.now.disk) self.now.known v → FitInTurn list.now v → HasBeside (put_changes list.now v).book records.now b → IfOk result (HasRoomWith list.now b v) }
+        ensures { (v : model) (b : Book) → At (G.state self.now.disk) self.now.known v → FitInTurn list.now v → HasBeside (put_changes list.now v).book records.now b → IfOk result (HasRoomWith list.now b v) }
     {
         if self.parts.broken {
             return Err(OutOfMemory);
         }
-        room_beside(&self.disk, &self.parts, list, records)
+        room_beside(&self.ground, &self.parts, list, records)
     }
 
     /// The number that the next change gets. None where no place of the epoch is left.
     pub fn next_usn(&self) -> Option<Usn>
-        ensures { (v : model) → At (D.state self.now.disk) self.now.known v → result ≡ cond (no_places v 1) None (Some (next_number v)) }
+        ensures { (v : model) → At (G.state self.now.disk) self.now.known v → result ≡ cond (no_places v 1) None (Some (next_number v)) }
     {
         let last = self.parts.contents.last;
         if last.place == MOST {

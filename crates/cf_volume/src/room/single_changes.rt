@@ -24,9 +24,9 @@ use crate::room_commits::has_place;
 use crate::stay::clusters::plan_item;
 use crate::stay::limits::fits_row;
 use cf_base::{Change, OutOfMemory, Usn};
-use cf_disk::Disk;
 use cf_table::{Row, item_of};
 use cf_volume_blocks::blocks_put;
+use cf_volume_ground::Ground;
 use cf_volume_image::Contents;
 
 /// The row of the item of a change that fits it, where a number is left for the change. None for a change that makes or
@@ -52,17 +52,17 @@ pub(crate) fn fitting_row<'a>(contents: &'a Contents, change: &Change) -> Option
 }
 
 /// Into how many blocks a change puts bytes that fits the row of its item.
-pub(crate) fn blocks_asked<D: Disk>(
-    disk: &D,
+pub(crate) fn blocks_asked<G: Ground>(
+    ground: &G,
     parts: &Parts,
     row: &Row,
     change: &Change,
 ) -> Result<usize, OutOfMemory>
     requires found { row_of parts.now.contents.rows.rows (item_of_change change.now) ≡ Some row.now }
     requires fits { FitsRow change.now row.now }
-    ensures { (v : Volume) → At (D.state disk.now) (known_of parts.now) v → IfOk result (λ n. length (puts_into v.items change.now) ≡ n) }
+    ensures { (v : Volume) → At (G.state ground.now) (known_of parts.now) v → IfOk result (λ n. length (puts_into v.items change.now) ≡ n) }
 {
-    let _ = disk;
+    let _ = ground;
     let blocks = blocks_put(parts.alloc, row, change)?;
     let count = blocks.len();
     drop(blocks);
@@ -97,19 +97,19 @@ fn surely_fits(contents: &Contents, change: &Change, blocks: usize) -> bool
 }
 
 // Whether a change is refused where the table would be full after it, by its new row.
-fn lacks_table_planned<D: Disk>(
-    disk: &D,
+fn lacks_table_planned<G: Ground>(
+    ground: &G,
     parts: &Parts,
     row: &Row,
     change: &Change,
 ) -> Result<bool, OutOfMemory>
-    requires steady { Steady (size_of (D.state disk.now)) (known_of parts.now) }
+    requires steady { Steady (size_of (G.state ground.now)) (known_of parts.now) }
     requires found { row_of parts.now.contents.rows.rows (item_of_change change.now) ≡ Some row.now }
     requires fits { FitsRow change.now row.now }
     requires place { parts.now.contents.last.place < MOST_NUMBER }
-    ensures { (v : Volume) → At (D.state disk.now) (known_of parts.now) v → IfOk result (λ full. is_table_full change.now (put_change change.now v).items (put_change change.now v).book ≡ full) }
+    ensures { (v : Volume) → At (G.state ground.now) (known_of parts.now) v → IfOk result (λ full. is_table_full change.now (put_change change.now v).items (put_change change.now v).book ≡ full) }
 {
-    let _ = disk;
+    let _ = ground;
     let _ = parts.contents.rows.image_len();
     let last = parts.contents.last;
     let number = Usn {
@@ -125,22 +125,22 @@ fn lacks_table_planned<D: Disk>(
 
 /// Whether a change that fits the row of its item, and puts bytes into so many blocks, is refused where the table would be full
 /// after it. The new row is made only where the image has little room, or the change is of a kind whose row may get much longer.
-pub(crate) fn lacks_table_after<D: Disk>(
-    disk: &D,
+pub(crate) fn lacks_table_after<G: Ground>(
+    ground: &G,
     parts: &Parts,
     row: &Row,
     change: &Change,
     blocks: usize,
 ) -> Result<bool, OutOfMemory>
-    requires steady { Steady (size_of (D.state disk.now)) (known_of parts.now) }
+    requires steady { Steady (size_of (G.state ground.now)) (known_of parts.now) }
     requires found { row_of parts.now.contents.rows.rows (item_of_change change.now) ≡ Some row.now }
     requires fits { FitsRow change.now row.now }
     requires place { parts.now.contents.last.place < MOST_NUMBER }
-    ensures { (v : Volume) → At (D.state disk.now) (known_of parts.now) v → length (puts_into v.items change.now) ≡ blocks → IfOk result (λ full. is_table_full change.now (put_change change.now v).items (put_change change.now v).book ≡ full) }
+    ensures { (v : Volume) → At (G.state ground.now) (known_of parts.now) v → length (puts_into v.items change.now) ≡ blocks → IfOk result (λ full. is_table_full change.now (put_change change.now v).items (put_change change.now v).book ≡ full) }
 {
     let _ = parts.contents.rows.image_len();
     if surely_fits(&parts.contents, change, blocks) {
         return Ok(false);
     }
-    lacks_table_planned(disk, parts, row, change)
+    lacks_table_planned(ground, parts, row, change)
 }

@@ -18,18 +18,18 @@ use crate::stay::blocks::stage_all;
 use crate::stay::emptied_blocks::drop_gone;
 use cf_base::{Change, OutOfMemory, Pin, Usn};
 use cf_clusters::Data;
-use cf_disk::Disk;
 use cf_ranges::{ExtentMap, RangeSet};
 use cf_table::Row;
 use cf_volume_blocks::blocks_put;
+use cf_volume_ground::Ground;
 use cf_volume_points::Stop;
 use std::alloc::Global;
 
 /// Stages the blocks of a change, and drops the extents whose block then holds no byte. `row` is the row before the
 /// change, and `here` what is here after it.
-pub(crate) fn settle_blocks<D: Disk>(
+pub(crate) fn settle_blocks<G: Ground>(
     alloc: Global,
-    disk: &mut D,
+    ground: &mut G,
     held: &mut Data,
     row: &Row,
     here: &RangeSet,
@@ -37,16 +37,16 @@ pub(crate) fn settle_blocks<D: Disk>(
     blocks: &[u32],
     change: &Change,
 ) -> Result<(), Stop>
-    requires room { place (length held.old) ≤ size_of (D.state disk.old) }
+    requires room { place (length held.old) ≤ size_of (G.state ground.old) }
     requires inside { (b k : ℕ) → cluster_at extents.old b ≡ Some k → k < length held.old }
     requires end { HasEnd change.now }
     requires free { length blocks.now ≤ how_many is_free held.old }
-    ensures settled { OnOk result (Settles change.now row.now blocks.now here.now (D.state disk.old) (D.state disk.new) held.old held.new extents.old extents.new) }
-    ensures crash { Leaves (D.state disk.old) (D.state disk.new) (KeepsWhere IsCommitted held.old (D.state disk.old)) }
-    ensures ran { Ran (4096 * length blocks.now) (D.state disk.old) (D.state disk.new) }
-    ensures cause { IfErr result (λ e. IsStop e (D.state disk.old) (D.state disk.new)) }
+    ensures settled { OnOk result (Settles change.now row.now blocks.now here.now (G.state ground.old) (G.state ground.new) held.old held.new extents.old extents.new) }
+    ensures crash { Leaves (G.state ground.old) (G.state ground.new) (KeepsWhere IsCommitted held.old (G.state ground.old)) }
+    ensures ran { Ran (4096 * length blocks.now) (G.state ground.old) (G.state ground.new) }
+    ensures cause { IfErr result (λ e. IsStop e (G.state ground.old) (G.state ground.new)) }
 {
-    stage_all(disk, held, row, extents, blocks, change)?;
+    stage_all(ground, held, row, extents, blocks, change)?;
     drop_gone(alloc, held, here, extents, blocks, change)?;
     Ok(())
 }

@@ -21,30 +21,30 @@ use crate::stay::plans::{plan_change, refusal_of};
 use crate::stay::rows::put_planned;
 use crate::stop_causes::fail_of;
 use cf_base::{CallError, Change, Usn};
-use cf_disk::Disk;
+use cf_volume_ground::Ground;
 
 /// Puts a change of an item that is there and stays, and gives its number. None where it waits for a
 /// commit; then nothing is done.
-pub(crate) fn put_stay<D: Disk>(
-    disk: &mut D,
+pub(crate) fn put_stay<G: Ground>(
+    ground: &mut G,
     parts: &mut Parts,
     change: &Change,
 ) -> Result<Option<Usn>, CallError>
     requires kind { stays change.now ≡ true }
-    requires steady { Steady (size_of (D.state disk.old)) (known_of parts.old) }
+    requires steady { Steady (size_of (G.state ground.old)) (known_of parts.old) }
     requires there { row_of parts.old.contents.rows.rows (item_of_change change.now) ≡ None → ⊥ }
     requires fits { Fits change.now parts.old.contents.rows.rows }
     requires place { parts.old.contents.last.place < MOST_NUMBER }
     requires count { parts.old.contents.count < 18446744073709551615 }
-    ensures put { (v : Volume) → At (D.state disk.old) (known_of parts.old) v → IsPut change.now v (D.state disk.old) (D.state disk.new) (known_of parts.new) result }
-    ensures aimed { (v : Volume) → At (D.state disk.old) (known_of parts.old) v → FollowsAim change.now v (D.state disk.old) result }
-    ensures kept { IsKept disk.old (known_of parts.old) result disk.new (known_of parts.new) }
-    ensures steady { OnOk result (Steady (size_of (D.state disk.new)) (known_of parts.new)) }
-    ensures crash { Leaves (D.state disk.old) (D.state disk.new) (KeepsWhere IsCommitted parts.old.held (D.state disk.old)) }
+    ensures put { (v : Volume) → At (G.state ground.old) (known_of parts.old) v → IsPut change.now v (G.state ground.old) (G.state ground.new) (known_of parts.new) result }
+    ensures aimed { (v : Volume) → At (G.state ground.old) (known_of parts.old) v → FollowsAim change.now v (G.state ground.old) result }
+    ensures kept { IsKept ground.old (known_of parts.old) result ground.new (known_of parts.new) }
+    ensures steady { OnOk result (Steady (size_of (G.state ground.new)) (known_of parts.new)) }
+    ensures crash { Leaves (G.state ground.old) (G.state ground.new) (KeepsWhere IsCommitted parts.old.held (G.state ground.old)) }
     ensures noted { OnOk result (NotesOnly (item_of_change change.now) (known_of parts.old) (known_of parts.new)) }
-    ensures written { (v : Volume) → At (D.state disk.old) (known_of parts.old) v → WritesAtMost (most_of_change v.items change.now) (D.state disk.old) (D.state disk.new) }
-    ensures runs { Runs (D.state disk.old) (D.state disk.new) }
-    ensures cause { IfErr result (λ e. IsCause e (D.state disk.old) (D.state disk.new)) }
+    ensures written { (v : Volume) → At (G.state ground.old) (known_of parts.old) v → WritesAtMost (most_of_change v.items change.now) (G.state ground.old) (G.state ground.new) }
+    ensures runs { Runs (G.state ground.old) (G.state ground.new) }
+    ensures cause { IfErr result (λ e. IsCause e (G.state ground.old) (G.state ground.new)) }
     ensures stays { OnErr result (parts.new.contents ≡ parts.old.contents) }
     ensures broken { parts.new.broken ≡ parts.old.broken }
 {
@@ -55,13 +55,13 @@ pub(crate) fn put_stay<D: Disk>(
         place: last.place + 1,
     };
     let planned = plan_change(parts.alloc, &parts.contents.rows, change, number)?;
-    if let Some(code) = refusal_of(disk, parts, change, &planned) {
+    if let Some(code) = refusal_of(ground, parts, change, &planned) {
         return Err(CallError::No(code));
     }
-    if waits_for_room(disk, parts, planned.blocks.len())? {
+    if waits_for_room(ground, parts, planned.blocks.len())? {
         return Ok(None);
     }
-    match put_planned(disk, parts, planned, change) {
+    match put_planned(ground, parts, planned, change) {
         Ok(()) => Ok(Some(number)),
         Err(stop) => Err(fail_of(stop)),
     }

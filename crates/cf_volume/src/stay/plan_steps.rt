@@ -15,15 +15,15 @@ use crate::stay::clusters::{Planned, settle_blocks};
 use crate::written_rows::put_row;
 use cf_base::{Change, ItemId};
 use cf_clusters::Data;
-use cf_disk::Disk;
 use cf_table::Rows;
+use cf_volume_ground::Ground;
 use cf_volume_points::Stop;
 use std::alloc::Global;
 
 /// Carries out a planned change of an item that is there.
-pub(crate) fn change_item<D: Disk>(
+pub(crate) fn change_item<G: Ground>(
     alloc: Global,
-    disk: &mut D,
+    ground: &mut G,
     held: &mut Data,
     rows: &mut Rows,
     id: ItemId,
@@ -31,23 +31,23 @@ pub(crate) fn change_item<D: Disk>(
     change: &Change,
 ) -> Result<(), Stop>
     requires there { row_of rows.old.rows id ≡ None → ⊥ }
-    requires room { place (length held.old) ≤ size_of (D.state disk.old) }
+    requires room { place (length held.old) ≤ size_of (G.state ground.old) }
     requires inside { (b k : ℕ) → cluster_at planned.row.extents b ≡ Some k → k < length held.old }
     requires end { HasEnd change.now }
     requires free { length planned.blocks.items ≤ how_many is_free held.old }
     requires spellable { IsSpellable planned.row }
-    ensures carried { OnOk result (Carries change.now id planned.row planned.blocks.items (D.state disk.old) (D.state disk.new) held.old held.new rows.old rows.new) }
-    ensures crash { Leaves (D.state disk.old) (D.state disk.new) (KeepsWhere IsCommitted held.old (D.state disk.old)) }
-    ensures ran { Ran (4096 * length planned.blocks.items) (D.state disk.old) (D.state disk.new) }
+    ensures carried { OnOk result (Carries change.now id planned.row planned.blocks.items (G.state ground.old) (G.state ground.new) held.old held.new rows.old rows.new) }
+    ensures crash { Leaves (G.state ground.old) (G.state ground.new) (KeepsWhere IsCommitted held.old (G.state ground.old)) }
+    ensures ran { Ran (4096 * length planned.blocks.items) (G.state ground.old) (G.state ground.new) }
     ensures stays { OnErr result (rows.new ≡ rows.old) }
-    ensures cause { IfErr result (λ e. IsStop e (D.state disk.old) (D.state disk.new)) }
+    ensures cause { IfErr result (λ e. IsStop e (G.state ground.old) (G.state ground.new)) }
 {
     let mut after = planned.row;
     match rows.get(id) {
         None => unreachable!(),
         Some(row) => settle_blocks(
             alloc,
-            disk,
+            ground,
             held,
             row,
             &after.here,

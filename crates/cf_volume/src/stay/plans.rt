@@ -21,8 +21,8 @@ use crate::parts::Parts;
 use crate::room::lengths::is_too_long_with;
 use crate::stay::clusters::{Planned, plan_item};
 use cf_base::{Change, Code, OutOfMemory, Usn};
-use cf_disk::Disk;
 use cf_table::{Rows, item_of};
+use cf_volume_ground::Ground;
 use cf_volume_image::Contents;
 use std::alloc::Global;
 
@@ -59,8 +59,8 @@ fn lacks_table(contents: &Contents, change: &Change, planned: &Planned) -> bool
 }
 
 /// Why a planned change of an item that is there and stays would be refused, where a number is left for it.
-pub(crate) fn refusal_of<D: Disk>(
-    disk: &D,
+pub(crate) fn refusal_of<G: Ground>(
+    ground: &G,
     parts: &Parts,
     change: &Change,
     planned: &Planned,
@@ -69,12 +69,12 @@ pub(crate) fn refusal_of<D: Disk>(
     requires place { parts.now.contents.last.place < MOST_NUMBER }
     requires there { row_of parts.now.contents.rows.rows (item_of_change change.now) ≡ None → ⊥ }
     requires plan { (r : Row) → row_of parts.now.contents.rows.rows (item_of_change change.now) ≡ Some r → Plans change.now (pin_for change.now parts.now.contents.rows.rows) (usn_after parts.now.contents.last.epoch parts.now.contents.last.place) r planned.now.row planned.now.blocks.items }
-    ensures why { (v : Volume) → At (D.state disk.now) (known_of parts.now) v → why_no_room (change.now ∷ []) v ≡ result }
-    ensures fits { IfNone result ((v : Volume) → At (D.state disk.now) (known_of parts.now) v → FitsTable (put_change change.now v).items (put_change change.now v).book) }
+    ensures why { (v : Volume) → At (G.state ground.now) (known_of parts.now) v → why_no_room (change.now ∷ []) v ≡ result }
+    ensures fits { IfNone result ((v : Volume) → At (G.state ground.now) (known_of parts.now) v → FitsTable (put_change change.now v).items (put_change change.now v).book) }
     ensures blocks { IfNone result (0 < length planned.now.blocks.items → how_many is_now parts.now.held + length planned.now.blocks.items ≤ parts.now.limit) }
     ensures only { IfSome result IsFullness }
 {
-    let _ = disk;
+    let _ = ground;
     let _ = parts.contents.rows.image_len();
     if lacks_table(&parts.contents, change, planned) {
         return Some(Code::TableFull);

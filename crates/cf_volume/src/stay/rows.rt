@@ -24,31 +24,31 @@ use crate::row_notes::note_row;
 use crate::stay::clusters::Planned;
 use crate::stay::plan_steps::change_item;
 use cf_base::Change;
-use cf_disk::Disk;
 use cf_table::item_of;
+use cf_volume_ground::Ground;
 use cf_volume_points::Stop;
 
 /// Puts a planned change of an item that stays. The clusters that it needs are free, and there is a number for it.
-pub(crate) fn put_planned<D: Disk>(
-    disk: &mut D,
+pub(crate) fn put_planned<G: Ground>(
+    ground: &mut G,
     parts: &mut Parts,
     planned: Planned,
     change: &Change,
 ) -> Result<(), Stop>
     requires kind { stays change.now ≡ true }
-    requires steady { Steady (size_of (D.state disk.old)) (known_of parts.old) }
+    requires steady { Steady (size_of (G.state ground.old)) (known_of parts.old) }
     requires there { row_of parts.old.contents.rows.rows (item_of_change change.now) ≡ None → ⊥ }
     requires plan { (r : Row) → row_of parts.old.contents.rows.rows (item_of_change change.now) ≡ Some r → Plans change.now (pin_for change.now parts.old.contents.rows.rows) (usn_after parts.old.contents.last.epoch parts.old.contents.last.place) r planned.row planned.blocks.items }
     requires end { HasEnd change.now }
     requires free { length planned.blocks.items ≤ how_many is_free parts.old.held }
     requires place { parts.old.contents.last.place < MOST_NUMBER }
     requires count { parts.old.contents.count < 18446744073709551615 }
-    ensures at { (v : Volume) → At (D.state disk.old) (known_of parts.old) v → FitsTable (put_change change.now v).items (put_change change.now v).book → OnOk result (At (D.state disk.new) (known_of parts.new) (put_change change.now v)) }
-    ensures steady { OnOk result (Steady (size_of (D.state disk.new)) (known_of parts.new)) }
-    ensures crash { Leaves (D.state disk.old) (D.state disk.new) (KeepsWhere IsCommitted parts.old.held (D.state disk.old)) }
+    ensures at { (v : Volume) → At (G.state ground.old) (known_of parts.old) v → FitsTable (put_change change.now v).items (put_change change.now v).book → OnOk result (At (G.state ground.new) (known_of parts.new) (put_change change.now v)) }
+    ensures steady { OnOk result (Steady (size_of (G.state ground.new)) (known_of parts.new)) }
+    ensures crash { Leaves (G.state ground.old) (G.state ground.new) (KeepsWhere IsCommitted parts.old.held (G.state ground.old)) }
     ensures noted { OnOk result (NotesOnly (item_of_change change.now) (known_of parts.old) (known_of parts.new)) }
-    ensures ran { Ran (4096 * length planned.blocks.items) (D.state disk.old) (D.state disk.new) }
-    ensures cause { IfErr result (λ e. IsStop e (D.state disk.old) (D.state disk.new)) }
+    ensures ran { Ran (4096 * length planned.blocks.items) (G.state ground.old) (G.state ground.new) }
+    ensures cause { IfErr result (λ e. IsStop e (G.state ground.old) (G.state ground.new)) }
     ensures stays { OnErr result (parts.new.contents ≡ parts.old.contents) }
     ensures broken { parts.new.broken ≡ parts.old.broken }
 {
@@ -63,7 +63,7 @@ pub(crate) fn put_planned<D: Disk>(
     )?;
     change_item(
         parts.alloc,
-        disk,
+        ground,
         &mut parts.held,
         &mut parts.contents.rows,
         id,

@@ -21,7 +21,7 @@ pub returns-in_err-number-clause-does : goal.returns-in_err-number-clause-does
 returns-in_err-number-clause-does g c = λ dir f.
     enters_err g.D.Disk.state dir (Stands g.D.Disk.state) (MayEnter f dir (c.args.change.now ∷ []) c.args.records.now) (change_with f c.args.change.now) (held c.args.volume.now c.args.desk.now) _ c.in_err-number.field-0.0 c.from_residual-in_err-number.result c.from_residual-in_err-number.ensures.1
     (entry_stopped g.D.Disk.state dir (held c.args.volume.now c.args.desk.now) c.args.change.now f c.put_entry.new.volume.disk
-    (record { reads_one = g.met.D.Disk.reads_one c.put_entry.new.volume.disk; same_size = g.met.D.Disk.same_size c.put_entry.new.volume.disk })
+    (record { same_size = g.met.D.Disk.same_size c.put_entry.new.volume.disk })
     c.in_err-number.ensures.crash c.in_err-number.ensures.runs
     (Stands g.D.Disk.state) (MayEnter f dir (c.args.change.now ∷ []) c.args.records.now) c.put_entry.new.volume.known c.args.desk.now c.in_err-number.field-0.0 refl c.in_err-number.ensures.stays
     (λ s h p. (c.in_err-number.ensures.only s.volume h.volume p.entries.0.room h.whole, (plain c.args.change.now (listed dir c.args.change.now s.volume p.entries.0.entry)).room s.volume))
@@ -31,7 +31,7 @@ pub returns-in_err-put_records-clause-does : goal.returns-in_err-put_records-cla
 returns-in_err-put_records-clause-does g c = λ dir f.
     enters_err g.D.Disk.state dir (Stands g.D.Disk.state) (MayEnter f dir (c.args.change.now ∷ []) c.args.records.now) (change_with f c.args.change.now) (held c.args.volume.now c.args.desk.now) _ OutOfMemory c.from_residual-in_err-put_records.result c.from_residual-in_err-put_records.ensures.1
     (entry_lost g.D.Disk.state dir (held c.args.volume.now c.args.desk.now) c.args.change.now f c.put_entry.new.volume.disk
-    (record { reads_one = g.met.D.Disk.reads_one c.put_entry.new.volume.disk; same_size = g.met.D.Disk.same_size c.put_entry.new.volume.disk })
+    (record { same_size = g.met.D.Disk.same_size c.put_entry.new.volume.disk })
     c.in_ok-number.ensures.crash c.in_ok-number.ensures.runs
     (Stands g.D.Disk.state) (MayEnter f dir (c.args.change.now ∷ []) c.args.records.now) c.put_entry.new.volume.known (held c.put_records.new.volume c.args.desk.now) c.put_records.ensures.disk c.in_ok-number.ensures.ok)
 
@@ -39,7 +39,7 @@ pub returns-in_err-note-clause-does : goal.returns-in_err-note-clause-does
 returns-in_err-note-clause-does g c = λ dir f.
     enters_err g.D.Disk.state dir (Stands g.D.Disk.state) (MayEnter f dir (c.args.change.now ∷ []) c.args.records.now) (change_with f c.args.change.now) (held c.args.volume.now c.args.desk.now) _ OutOfMemory c.from_residual-in_err-note.result c.from_residual-in_err-note.ensures.1
     (entry_lost g.D.Disk.state dir (held c.args.volume.now c.args.desk.now) c.args.change.now f c.put_entry.new.volume.disk
-    (record { reads_one = g.met.D.Disk.reads_one c.put_entry.new.volume.disk; same_size = g.met.D.Disk.same_size c.put_entry.new.volume.disk })
+    (record { same_size = g.met.D.Disk.same_size c.put_entry.new.volume.disk })
     c.in_ok-number.ensures.crash c.in_ok-number.ensures.runs
     (Stands g.D.Disk.state) (MayEnter f dir (c.args.change.now ∷ []) c.args.records.now) c.put_entry.new.volume.known (held c.put_records.new.volume c.note.new.self) c.put_records.ensures.disk c.in_ok-number.ensures.ok)
 
@@ -51,7 +51,7 @@ returns-clause-does g c = λ dir f.
     subst (λ (z : _). Enters g.D.Disk.state dir (Stands g.D.Disk.state) (MayEnter f dir (c.args.change.now ∷ []) c.args.records.now) (change_with f c.args.change.now) (held c.args.volume.now c.args.desk.now) (Ok unit) (record { disk = z; known = c.put_records.new.volume.known; desk = c.note.new.self }))
     (sym c.put_records.ensures.disk)
     (entered_last g.D.Disk.state dir (held c.args.volume.now c.args.desk.now) c.args.change.now f c.put_entry.new.volume.disk
-    (record { reads_one = g.met.D.Disk.reads_one c.put_entry.new.volume.disk; same_size = g.met.D.Disk.same_size c.put_entry.new.volume.disk })
+    (record { same_size = g.met.D.Disk.same_size c.put_entry.new.volume.disk })
     c.in_ok-number.ensures.crash c.in_ok-number.ensures.runs
     c.put_records.new.volume.known c.note.new.self c.in_ok-number.number c.args.records.now c.in_ok-number.ensures.listed c.in_ok-put_records.ensures.usable
     (c.in_ok-note.ensures.ok ∙ (λ j. record c.args.desk.now { notes = c.args.desk.now.notes ++ notice.Change c.in_ok-number.number (c.in_ok-line.ensures j) ∷ [] }))

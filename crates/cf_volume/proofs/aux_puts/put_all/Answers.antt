@@ -8,7 +8,7 @@ returns-then-branch-clause-why g c = λ v b at has. sym (c.in_ok-is_full_now.ens
 
 pub returns-clause-ok : goal.returns-clause-ok
 returns-clause-ok g c = λ v b at has.
-    all_put (g.D.Disk.state c.args.disk.now) (known_of c.args.parts.now) v b c.args.list.now at has (sym (c.in_ok-is_full_now.ensures v b at has) ∙ c.if-branch.false) c.put_each.new.records c.put_each.new.then c.put_each.new.made c.in_ok-put_each.ensures.records c.in_ok-put_each.ensures.known
+    all_put (g.G.Ground.state c.args.ground.now) (known_of c.args.parts.now) v b c.args.list.now at has (sym (c.in_ok-is_full_now.ensures v b at has) ∙ c.if-branch.false) c.put_each.new.records c.put_each.new.then c.put_each.new.made c.in_ok-put_each.ensures.records c.in_ok-put_each.ensures.known
 
 pub returns-clause-why : goal.returns-clause-why
 returns-clause-why g c = λ v b at has. sym (c.in_ok-is_full_now.ensures v b at has) ∙ c.if-branch.false

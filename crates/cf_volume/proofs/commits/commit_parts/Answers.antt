@@ -14,50 +14,50 @@ returns-in-Err-clause-only g c = λ v at. failed_stop c.in-Err.stop c.fail_of.re
 
 pub returns-then-not-can_be_written-clause-only : goal.returns-then-not-can_be_written-clause-only
 returns-then-not-can_be_written-clause-only g c = λ v at.
-    absurd (not_yes c.can_be_written.result c.if-not-can_be_written.true (c.can_be_written.ensures.1 (is_writable (g.D.Disk.state c.args.disk.now) c.args.parts.now v at c.image_len.ensures.kept)))
+    absurd (not_yes c.can_be_written.result c.if-not-can_be_written.true (c.can_be_written.ensures.1 (is_writable (g.G.Ground.state c.args.ground.now) c.args.parts.now v at c.image_len.ensures.kept)))
 
 pub returns-then-not-can_be_written-clause-crash : goal.returns-then-not-can_be_written-clause-crash
 returns-then-not-can_be_written-clause-crash g c = λ v at keep.
-    untouched_either (g.D.Disk.state c.args.disk.now) (g.D.Disk.state c.args.disk.now) (known_of c.args.parts.now) v
-    (record { reads_one = g.met.D.Disk.reads_one c.args.disk.now; same_size = g.met.D.Disk.same_size c.args.disk.now }) at
+    untouched_either (g.G.Ground.state c.args.ground.now) (g.G.Ground.state c.args.ground.now) (known_of c.args.parts.now) v
+    (record { same_size = g.met.G.Ground.same_size c.args.ground.now }) at
 
 pub returns-in_err-then-clause-crash : goal.returns-in_err-then-clause-crash
 returns-in_err-then-clause-crash g c = λ v at keep.
-    untouched_either (g.D.Disk.state c.args.disk.now) (g.D.Disk.state c.args.disk.now) (known_of c.args.parts.now) v
-    (record { reads_one = g.met.D.Disk.reads_one c.args.disk.now; same_size = g.met.D.Disk.same_size c.args.disk.now }) at
+    untouched_either (g.G.Ground.state c.args.ground.now) (g.G.Ground.state c.args.ground.now) (known_of c.args.parts.now) v
+    (record { same_size = g.met.G.Ground.same_size c.args.ground.now }) at
 
 pub returns-in-Ok-clause-sure : goal.returns-in-Ok-clause-sure
 returns-in-Ok-clause-sure g c = λ v at keep.
-    commit_sure (g.D.Disk.state c.args.disk.now) (g.D.Disk.state c.save.new.disk) c.args.parts.now
-    (record { reads_one = g.met.D.Disk.reads_one c.args.disk.now; same_size = g.met.D.Disk.same_size c.args.disk.now })
+    commit_sure (g.G.Ground.state c.args.ground.now) (g.G.Ground.state c.save.new.self) c.args.parts.now
+    (record { same_size = g.met.G.Ground.same_size c.args.ground.now })
     c.requires.steady c.image_len.ensures.rises c.image_len.ensures.kept (c.can_be_written.ensures.0 c.if-not-can_be_written.false) v at keep
     c.save.new.journal c.save.new.held c.in_ok-then.then (subst (λ (n : ItemId). NotesNothing n c.in_ok-then.then) c.next.ensures c.in_ok-then.ensures) c.in-Ok.ensures.held c.used-parts.result c.used-parts.ensures c.in-Ok.ensures.saved
-    c.in-Ok.ensures.keys_rise c.in-Ok.ensures.same_size c.in-Ok.ensures.durable c.in-Ok.ensures.rest
+    c.as_slice.ensures.rise c.save.ensures.ran.size c.in-Ok.ensures.durable c.in-Ok.ensures.rest
 
 pub returns-in-Ok-clause-room : goal.returns-in-Ok-clause-room
 returns-in-Ok-clause-room g c = λ v at keep.
-    commit_room (g.D.Disk.state c.args.disk.now) (g.D.Disk.state c.save.new.disk) c.args.parts.now
-    (record { reads_one = g.met.D.Disk.reads_one c.args.disk.now; same_size = g.met.D.Disk.same_size c.args.disk.now })
+    commit_room (g.G.Ground.state c.args.ground.now) (g.G.Ground.state c.save.new.self) c.args.parts.now
+    (record { same_size = g.met.G.Ground.same_size c.args.ground.now })
     c.requires.steady c.image_len.ensures.rises c.image_len.ensures.kept (c.can_be_written.ensures.0 c.if-not-can_be_written.false) v at keep
     c.save.new.journal c.save.new.held c.in_ok-then.then (subst (λ (n : ItemId). NotesNothing n c.in_ok-then.then) c.next.ensures c.in_ok-then.ensures) c.in-Ok.ensures.held c.used-parts.result c.used-parts.ensures c.in-Ok.ensures.saved
-    c.in-Ok.ensures.keys_rise c.in-Ok.ensures.same_size c.in-Ok.ensures.durable c.in-Ok.ensures.rest
+    c.as_slice.ensures.rise c.save.ensures.ran.size c.in-Ok.ensures.durable c.in-Ok.ensures.rest
 
 pub returns-in-Ok-clause-crash : goal.returns-in-Ok-clause-crash
 returns-in-Ok-clause-crash g c = λ v at keep.
-    commit_leaves (g.D.Disk.state c.args.disk.now) (g.D.Disk.state c.save.new.disk) c.args.parts.now
-    (record { reads_one = g.met.D.Disk.reads_one c.args.disk.now; same_size = g.met.D.Disk.same_size c.args.disk.now })
+    commit_leaves (g.G.Ground.state c.args.ground.now) (g.G.Ground.state c.save.new.self) c.args.parts.now
+    (record { same_size = g.met.G.Ground.same_size c.args.ground.now })
     c.requires.steady c.image_len.ensures.rises c.image_len.ensures.kept (c.can_be_written.ensures.0 c.if-not-can_be_written.false) v at keep c.in-Ok.ensures.crash
 
 pub returns-in-Ok-clause-steady : goal.returns-in-Ok-clause-steady
 returns-in-Ok-clause-steady g c =
-    subst (λ (k : Known). Steady (size_of (g.D.Disk.state c.save.new.disk)) k)
+    subst (λ (k : Known). Steady (size_of (g.G.Ground.state c.save.new.self)) k)
     (committed_is (known_of c.args.parts.now) c.save.new.journal c.save.new.held c.in_ok-then.then c.used-parts.result (subst (λ (n : ItemId). NotesNothing n c.in_ok-then.then) c.next.ensures c.in_ok-then.ensures) c.in-Ok.ensures.held c.used-parts.ensures)
-    (committed_steady (g.D.Disk.state c.args.disk.now) (g.D.Disk.state c.save.new.disk) (known_of c.args.parts.now) c.save.new.journal c.requires.steady c.in-Ok.ensures.same_size c.in-Ok.ensures.usable)
+    (committed_steady (g.G.Ground.state c.args.ground.now) (g.G.Ground.state c.save.new.self) (known_of c.args.parts.now) c.save.new.journal c.requires.steady c.save.ensures.ran.size c.in-Ok.ensures.usable)
 
 pub returns-in-Err-clause-crash : goal.returns-in-Err-clause-crash
 returns-in-Err-clause-crash g c = λ v at keep.
-    commit_leaves (g.D.Disk.state c.args.disk.now) (g.D.Disk.state c.save.new.disk) c.args.parts.now
-    (record { reads_one = g.met.D.Disk.reads_one c.args.disk.now; same_size = g.met.D.Disk.same_size c.args.disk.now })
+    commit_leaves (g.G.Ground.state c.args.ground.now) (g.G.Ground.state c.save.new.self) c.args.parts.now
+    (record { same_size = g.met.G.Ground.same_size c.args.ground.now })
     c.requires.steady c.image_len.ensures.rises c.image_len.ensures.kept (c.can_be_written.ensures.0 c.if-not-can_be_written.false) v at keep c.in-Err.ensures.crash
 
 pub returns-in-Ok-clause-noted : goal.returns-in-Ok-clause-noted

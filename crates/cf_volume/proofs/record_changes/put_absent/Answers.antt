@@ -13,17 +13,17 @@ use Rattle.cf_volume.proofs.record_changes.put_absent.Goals as goal
 pub returns-then-is_full-clause-put : goal.returns-then-is_full-clause-put
 returns-then-is_full-clause-put g c = λ v at.
     let test = c.is_full.ensures ∙ ap (passes c.args.parts.now.limit (how_many is_now c.args.parts.now.held)) c.clusters_asked-asked.ensures.asked in
-    inr (absent_why (g.D.Disk.state c.args.disk.now) (known_of c.args.parts.now) v c.args.change.now at c.requires.kind c.requires.none c.is_full.result test c.requires.place
+    inr (absent_why (g.G.Ground.state c.args.ground.now) (known_of c.args.parts.now) v c.args.change.now at c.requires.kind c.requires.none c.is_full.result test c.requires.place
     ∙ ap (λ (b : Bool). cond b (Some code.Full) None) c.if-is_full.true)
 
 pub returns-then-branch-clause-put : goal.returns-then-branch-clause-put
 returns-then-branch-clause-put g c = λ v at.
     let test = c.is_full.ensures ∙ ap (passes c.args.parts.now.limit (how_many is_now c.args.parts.now.held)) c.clusters_asked-asked.ensures.asked in
     let puts : length (puts_into v.items c.args.change.now) ≡ c.clusters_asked-asked.result =
-    absent_puts (g.D.Disk.state c.args.disk.now) (known_of c.args.parts.now) v c.args.change.now at c.requires.kind c.requires.none ∙ sym c.clusters_asked-asked.ensures.asked in (
-      absent_why (g.D.Disk.state c.args.disk.now) (known_of c.args.parts.now) v c.args.change.now at c.requires.kind c.requires.none c.is_full.result test c.requires.place
+    absent_puts (g.G.Ground.state c.args.ground.now) (known_of c.args.parts.now) v c.args.change.now at c.requires.kind c.requires.none ∙ sym c.clusters_asked-asked.ensures.asked in (
+      absent_why (g.G.Ground.state c.args.ground.now) (known_of c.args.parts.now) v c.args.change.now at c.requires.kind c.requires.none c.is_full.result test c.requires.place
           ∙ ap (λ (b : Bool). cond b (Some code.Full) None) c.if-is_full.false,
-      room_needed (g.D.Disk.state c.args.disk.now) (known_of c.args.parts.now) v c.args.change.now c.clusters_asked-asked.result at puts (c.in_ok-waits_for_room.ensures.waits c.if-branch.true),
+      room_needed (g.G.Ground.state c.args.ground.now) (known_of c.args.parts.now) v c.args.change.now c.clusters_asked-asked.result at puts (c.in_ok-waits_for_room.ensures.waits c.if-branch.true),
     )
 
 pub returns-then-branch-clause-aimed : goal.returns-then-branch-clause-aimed
@@ -33,15 +33,15 @@ pub returns-clause-put : goal.returns-clause-put
 returns-clause-put g c = λ v at.
     let test = c.is_full.ensures ∙ ap (passes c.args.parts.now.limit (how_many is_now c.args.parts.now.held)) c.clusters_asked-asked.ensures.asked in (
       λ i. usn_after (at.now.epoch i) (at.now.place i),
-      absent_why (g.D.Disk.state c.args.disk.now) (known_of c.args.parts.now) v c.args.change.now at c.requires.kind c.requires.none c.is_full.result test c.requires.place
+      absent_why (g.G.Ground.state c.args.ground.now) (known_of c.args.parts.now) v c.args.change.now at c.requires.kind c.requires.none c.is_full.result test c.requires.place
           ∙ ap (λ (b : Bool). cond b (Some code.Full) None) c.if-is_full.false,
-      absent_at (g.D.Disk.state c.args.disk.now) (known_of c.args.parts.now) v c.args.change.now at c.requires.kind c.requires.none c.saturating_add-parts.result
+      absent_at (g.G.Ground.state c.args.ground.now) (known_of c.args.parts.now) v c.args.change.now at c.requires.kind c.requires.none c.saturating_add-parts.result
           (counted c.args.parts.now.put_since c.clusters_asked-asked.result _ c.saturating_add-parts.result c.clusters_asked-asked.ensures.asked c.saturating_add-parts.ensures),
     )
 
 pub returns-clause-aimed : goal.returns-clause-aimed
 returns-clause-aimed g c = λ v at.
     let puts : length (puts_into v.items c.args.change.now) ≡ c.clusters_asked-asked.result =
-    absent_puts (g.D.Disk.state c.args.disk.now) (known_of c.args.parts.now) v c.args.change.now at c.requires.kind c.requires.none ∙ sym c.clusters_asked-asked.ensures.asked in
-    put_wanted (g.D.Disk.state c.args.disk.now) (known_of c.args.parts.now) v c.args.change.now c.clusters_asked-asked.result at puts
-    (g.D.Disk.state c.args.disk.now).settings.aim (c.in_ok-waits_for_room.ensures.light c.if-branch.false)
+    absent_puts (g.G.Ground.state c.args.ground.now) (known_of c.args.parts.now) v c.args.change.now at c.requires.kind c.requires.none ∙ sym c.clusters_asked-asked.ensures.asked in
+    put_wanted (g.G.Ground.state c.args.ground.now) (known_of c.args.parts.now) v c.args.change.now c.clusters_asked-asked.result at puts
+    (g.G.Ground.state c.args.ground.now).settings.aim (c.in_ok-waits_for_room.ensures.light c.if-branch.false)

@@ -5,7 +5,7 @@ use Rattle.cf_world.proofs.migrations.open.Goals as goal
 
 pub returns-in-Ok-clause-opened : goal.returns-in-Ok-clause-opened
 returns-in-Ok-clause-opened g c =
-    migrated (g.D.Disk.state c.args.disk.now) (g.D.Disk.state c.load.new.disk) c.in-Ok.parts (record { reads_one = g.met.D.Disk.reads_one c.load.new.disk; same_size = g.met.D.Disk.same_size c.load.new.disk })
+    migrated (g.D.Disk.state c.args.disk.now) (g.D.Disk.state c.load.new.disk) c.in-Ok.parts (record { same_size = g.met.D.Disk.same_size c.load.new.disk }) (g.met.D.Disk.reads_one c.load.new.disk)
     c.in-Ok.ensures.found c.in-Ok.ensures.holds c.in-Ok.ensures.rest c.in-Ok.ensures.ok
 
 pub returns-in-Err-clause-cause : goal.returns-in-Err-clause-cause

@@ -9,7 +9,7 @@ use Rattle.cf_filter.proofs.filters.Filter.arm.Goals as goal
 pub returns-clause-stands : goal.returns-clause-stands
 returns-clause-stands g c = λ s h.
     armed_stands g.D.Disk.state c.self.inside.machine c.arm_on.new.machine c.arm_on.ensures.same c.arm_on.ensures.known c.arm_on.ensures.desk
-    (record { reads_one = g.met.D.Disk.reads_one c.arm_on.new.machine.disk; same_size = g.met.D.Disk.same_size c.arm_on.new.machine.disk }) s
+    (record { same_size = g.met.D.Disk.same_size c.arm_on.new.machine.disk }) s
     (subst (λ (w : Held g.row.D.Denot). Stands g.D.Disk.state w s) (sym c.self.view_is) h)
 
 pub returns-clause-stopped : goal.returns-clause-stopped

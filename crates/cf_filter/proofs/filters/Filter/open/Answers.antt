@@ -8,7 +8,7 @@ use Rattle.cf_filter.proofs.filters.Filter.open.Goals as goal
 pub returns-in-Ok-clause-ok : goal.returns-in-Ok-clause-ok
 returns-in-Ok-clause-ok g c = λ epoch log b stands kept.
     starts_opened g.D.Disk.state _ c.in-Ok.volume.disk c.in-Ok.volume.known c.args.policy
-    (record { reads_one = g.met.D.Disk.reads_one c.in-Ok.volume.disk; same_size = g.met.D.Disk.same_size c.in-Ok.volume.disk }) c.in-Ok.ensures.usable c.on_volume.ensures (epoch + 1) log b _ (c.in-Ok.ensures.ok epoch log b stands) kept
+    (record { same_size = g.met.D.Disk.same_size c.in-Ok.volume.disk }) c.in-Ok.ensures.usable c.on_volume.ensures (epoch + 1) log b _ (c.in-Ok.ensures.ok epoch log b stands) kept
 
 pub returns-in-Ok-clause-crash : goal.returns-in-Ok-clause-crash
 returns-in-Ok-clause-crash g c = λ epoch log b stands.

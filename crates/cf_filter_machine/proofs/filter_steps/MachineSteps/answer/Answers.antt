@@ -50,7 +50,7 @@ read_here-requires-clause-here g c = subst (λ (o : Option Row). IsHere o c.in_o
 pub returns-in_err-bytes-clause-does : goal.returns-in_err-bytes-clause-does
 returns-in_err-bytes-clause-does g c =
     one_stops_by g.D.Disk.state (MayAnswer (meant c.args.need.now)) c.args.self.now c.read_here.new.volume.disk
-    (record { reads_one = g.met.D.Disk.reads_one c.read_here.new.volume.disk; same_size = g.met.D.Disk.same_size c.read_here.new.volume.disk })
+    (record { same_size = g.met.D.Disk.same_size c.read_here.new.volume.disk })
     (λ v at. seen_leaves g.D.Disk.state (g.D.Disk.state c.read_here.new.volume.disk) (StandsLast v) c.self.view_is (c.in_err-bytes.ensures.crash v (seen_at g.D.Disk.state v c.self.view_is at)))
     (seen_runs g.D.Disk.state (g.D.Disk.state c.read_here.new.volume.disk) c.self.view_is c.in_err-bytes.ensures.runs)
     (accessed_now (meant c.args.need.now)) c.read_here.new.volume.known c.self.inside.desk c.in_err-bytes.field-0.0 c.from_residual-in_err-bytes.result c.from_residual-in_err-bytes.ensures.1 (seen_desk c.self.view_is)
@@ -62,7 +62,7 @@ pub returns-clause-does : goal.returns-clause-does
 returns-clause-does g c =
     let reads = sym c.is_access.ensures ∙ c.if-not-is_access.false in
     one_done g.D.Disk.state (MayAnswer (meant c.args.need.now)) c.args.self.now c.read_here.new.volume.disk
-    (record { reads_one = g.met.D.Disk.reads_one c.read_here.new.volume.disk; same_size = g.met.D.Disk.same_size c.read_here.new.volume.disk })
+    (record { same_size = g.met.D.Disk.same_size c.read_here.new.volume.disk })
     (λ v at. seen_leaves g.D.Disk.state (g.D.Disk.state c.read_here.new.volume.disk) (StandsLast v) c.self.view_is (c.in_ok-bytes.ensures.crash v (seen_at g.D.Disk.state v c.self.view_is at)))
     (seen_runs g.D.Disk.state (g.D.Disk.state c.read_here.new.volume.disk) c.self.view_is c.in_ok-bytes.ensures.runs)
     (accessed_now (meant c.args.need.now)) c.read_here.new.volume.known c.self.inside.desk c.in_ok-bytes.ensures.usable

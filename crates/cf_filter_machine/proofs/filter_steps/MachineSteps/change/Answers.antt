@@ -28,7 +28,7 @@ returns-then-not-fits-clause-does g c =
 pub returns-in-Err-clause-does : goal.returns-in-Err-clause-does
 returns-in-Err-clause-does g c =
     put_stops_by g.D.Disk.state (Ready c.args.change) c.args.self.now same_book c.args.change c.apply.new.self.disk
-    (record { reads_one = g.met.D.Disk.reads_one c.apply.new.self.disk; same_size = g.met.D.Disk.same_size c.apply.new.self.disk })
+    (record { same_size = g.met.D.Disk.same_size c.apply.new.self.disk })
     (λ v at keep. seen_leaves g.D.Disk.state (g.D.Disk.state c.apply.new.self.disk) (StandsEither v) c.self.view_is (c.in-Err.ensures.crash v (seen_at g.D.Disk.state v c.self.view_is at) keep))
     (λ v at none. seen_leaves g.D.Disk.state (g.D.Disk.state c.apply.new.self.disk) (StandsLast v) c.self.view_is (c.in-Err.ensures.kept_crash v (seen_at g.D.Disk.state v c.self.view_is at) none))
     (seen_runs g.D.Disk.state (g.D.Disk.state c.apply.new.self.disk) c.self.view_is c.in-Err.ensures.runs)
@@ -42,7 +42,7 @@ pub returns-in_err-note-clause-does : goal.returns-in_err-note-clause-does
 returns-in_err-note-clause-does g c =
     with_err (sense g.D.Disk.state) (Ready c.args.change) (change c.args.change) c.args.self.now _ OutOfMemory c.from_residual.result c.from_residual.ensures.1
     (put_lost g.D.Disk.state (Ready c.args.change) c.args.self.now same_book c.args.change c.apply.new.self.disk
-    (record { reads_one = g.met.D.Disk.reads_one c.apply.new.self.disk; same_size = g.met.D.Disk.same_size c.apply.new.self.disk })
+    (record { same_size = g.met.D.Disk.same_size c.apply.new.self.disk })
     (λ v at keep. seen_leaves g.D.Disk.state (g.D.Disk.state c.apply.new.self.disk) (StandsEither v) c.self.view_is (c.in-Ok.ensures.crash v (seen_at g.D.Disk.state v c.self.view_is at) keep))
     (λ v at none. seen_leaves g.D.Disk.state (g.D.Disk.state c.apply.new.self.disk) (StandsLast v) c.self.view_is (c.in-Ok.ensures.kept_crash v (seen_at g.D.Disk.state v c.self.view_is at) none))
     (seen_runs g.D.Disk.state (g.D.Disk.state c.apply.new.self.disk) c.self.view_is c.in-Ok.ensures.runs)
@@ -53,7 +53,7 @@ returns-in_err-note-clause-does g c =
 pub returns-clause-does : goal.returns-clause-does
 returns-clause-does g c =
     put_told g.D.Disk.state (Ready c.args.change) c.args.self.now same_book c.args.change c.apply.new.self.disk
-    (record { reads_one = g.met.D.Disk.reads_one c.apply.new.self.disk; same_size = g.met.D.Disk.same_size c.apply.new.self.disk })
+    (record { same_size = g.met.D.Disk.same_size c.apply.new.self.disk })
     (λ v at keep. seen_leaves g.D.Disk.state (g.D.Disk.state c.apply.new.self.disk) (StandsEither v) c.self.view_is (c.in-Ok.ensures.crash v (seen_at g.D.Disk.state v c.self.view_is at) keep))
     (λ v at none. seen_leaves g.D.Disk.state (g.D.Disk.state c.apply.new.self.disk) (StandsLast v) c.self.view_is (c.in-Ok.ensures.kept_crash v (seen_at g.D.Disk.state v c.self.view_is at) none))
     (seen_runs g.D.Disk.state (g.D.Disk.state c.apply.new.self.disk) c.self.view_is c.in-Ok.ensures.runs)

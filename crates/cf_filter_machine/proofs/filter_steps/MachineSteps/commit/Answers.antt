@@ -7,7 +7,7 @@ use Rattle.cf_filter_machine.proofs.filter_steps.MachineSteps.commit.Goals as go
 pub returns-in_err-commit : goal.returns-in_err-commit
 returns-in_err-commit g c =
     commit_stops g.D.Disk.state c.args.self.now c.commit.new.self.disk c.commit.new.self.known c.self.inside.desk (seen_desk c.self.view_is)
-    (record { reads_one = g.met.D.Disk.reads_one c.commit.new.self.disk; same_size = g.met.D.Disk.same_size c.commit.new.self.disk })
+    (record { same_size = g.met.D.Disk.same_size c.commit.new.self.disk })
     (λ v at keep. seen_leaves g.D.Disk.state (g.D.Disk.state c.commit.new.self.disk) (StandsEither v) c.self.view_is (c.in_err-commit.ensures.crash v (seen_at g.D.Disk.state v c.self.view_is at) keep))
     (seen_runs g.D.Disk.state (g.D.Disk.state c.commit.new.self.disk) c.self.view_is c.in_err-commit.ensures.runs)
     c.in_err-commit.field-0.0 c.from_residual.result c.from_residual.ensures.1
@@ -18,7 +18,7 @@ returns-in_err-commit g c =
 pub returns : goal.returns
 returns g c =
     committed g.D.Disk.state c.args.self.now c.commit.new.self.disk c.commit.new.self.known c.self.inside.desk (seen_desk c.self.view_is)
-    (record { reads_one = g.met.D.Disk.reads_one c.commit.new.self.disk; same_size = g.met.D.Disk.same_size c.commit.new.self.disk })
+    (record { same_size = g.met.D.Disk.same_size c.commit.new.self.disk })
     (λ v at keep. seen_leaves g.D.Disk.state (g.D.Disk.state c.commit.new.self.disk) (StandsEither v) c.self.view_is (c.in_ok-commit.ensures.crash v (seen_at g.D.Disk.state v c.self.view_is at) keep))
     (seen_runs g.D.Disk.state (g.D.Disk.state c.commit.new.self.disk) c.self.view_is c.in_ok-commit.ensures.runs)
     c.in_ok-commit.ensures.usable (λ v at keep. (c.in_ok-commit.ensures.ok v (seen_at g.D.Disk.state v c.self.view_is at) keep).0)

@@ -56,7 +56,7 @@ pub returns-in_err-bytes : goal.returns-in_err-bytes
 returns-in_err-bytes g c =
     with_err (sense g.D.Disk.state) (IsEndOnFile c.args.ended.now) (end_wait c.args.ended.now) c.args.self.now _ c.in_err-bytes.field-0.0 c.from_residual-in_err-bytes.result c.from_residual-in_err-bytes.ensures.1
     (one_stopped g.D.Disk.state (IsEndOnFile c.args.ended.now) c.args.self.now c.read_here.new.volume.disk
-    (record { reads_one = g.met.D.Disk.reads_one c.read_here.new.volume.disk; same_size = g.met.D.Disk.same_size c.read_here.new.volume.disk })
+    (record { same_size = g.met.D.Disk.same_size c.read_here.new.volume.disk })
     (λ v at. seen_leaves g.D.Disk.state (g.D.Disk.state c.read_here.new.volume.disk) (StandsLast v) c.self.view_is (c.in_err-bytes.ensures.crash v (seen_at g.D.Disk.state v c.self.view_is at)))
     (seen_runs g.D.Disk.state (g.D.Disk.state c.read_here.new.volume.disk) c.self.view_is c.in_err-bytes.ensures.runs)
     (with_ended c.args.ended.now) c.read_here.new.volume.known c.self.inside.desk c.in_err-bytes.field-0.0 (seen_desk c.self.view_is) (λ s h. c.in_err-bytes.ensures.only (seen_whole c.self.view_is h.whole))
@@ -67,7 +67,7 @@ pub returns-in_err-end : goal.returns-in_err-end
 returns-in_err-end g c =
     with_err (sense g.D.Disk.state) (IsEndOnFile c.args.ended.now) (end_wait c.args.ended.now) c.args.self.now _ OutOfMemory c.from_residual-in_err-end.result c.from_residual-in_err-end.ensures.1
     (one_lost g.D.Disk.state (IsEndOnFile c.args.ended.now) c.args.self.now c.read_here.new.volume.disk
-    (record { reads_one = g.met.D.Disk.reads_one c.read_here.new.volume.disk; same_size = g.met.D.Disk.same_size c.read_here.new.volume.disk })
+    (record { same_size = g.met.D.Disk.same_size c.read_here.new.volume.disk })
     (λ v at. seen_leaves g.D.Disk.state (g.D.Disk.state c.read_here.new.volume.disk) (StandsLast v) c.self.view_is (c.in_ok-bytes.ensures.crash v (seen_at g.D.Disk.state v c.self.view_is at)))
     (seen_runs g.D.Disk.state (g.D.Disk.state c.read_here.new.volume.disk) c.self.view_is c.in_ok-bytes.ensures.runs)
     (with_ended c.args.ended.now) c.read_here.new.volume.known c.end.new.self)
@@ -76,7 +76,7 @@ pub returns : goal.returns
 returns g c =
     let reads = ap (λ (k : WaitKind). is_access k c.args.ended.now.1) (sym c.kind.ensures) ∙ sym c.is_access.ensures ∙ c.if-not-is_access.false in
     one_done g.D.Disk.state (IsEndOnFile c.args.ended.now) c.args.self.now c.read_here.new.volume.disk
-    (record { reads_one = g.met.D.Disk.reads_one c.read_here.new.volume.disk; same_size = g.met.D.Disk.same_size c.read_here.new.volume.disk })
+    (record { same_size = g.met.D.Disk.same_size c.read_here.new.volume.disk })
     (λ v at. seen_leaves g.D.Disk.state (g.D.Disk.state c.read_here.new.volume.disk) (StandsLast v) c.self.view_is (c.in_ok-bytes.ensures.crash v (seen_at g.D.Disk.state v c.self.view_is at)))
     (seen_runs g.D.Disk.state (g.D.Disk.state c.read_here.new.volume.disk) c.self.view_is c.in_ok-bytes.ensures.runs)
     (with_ended c.args.ended.now) c.read_here.new.volume.known c.end.new.self c.in_ok-bytes.ensures.usable

@@ -16,7 +16,7 @@ pub returns-in_err-number-clause-does : goal.returns-in_err-number-clause-does
 returns-in_err-number-clause-does g c = λ i.
     with_err (sense g.D.Disk.state) (MayGo c.args.item i) (removed c.args.bury i) c.args.self.now _ c.in_err-number.field-0.0 c.from_residual.result c.from_residual.ensures.1
     (removed_stopped g.D.Disk.state c.args.self.now c.args.item c.args.bury i c.remove_item.new.volume.disk
-    (record { reads_one = g.met.D.Disk.reads_one c.remove_item.new.volume.disk; same_size = g.met.D.Disk.same_size c.remove_item.new.volume.disk })
+    (record { same_size = g.met.D.Disk.same_size c.remove_item.new.volume.disk })
     (λ v at. seen_leaves g.D.Disk.state (g.D.Disk.state c.remove_item.new.volume.disk) (StandsLast v) c.self.view_is (c.in_err-number.ensures.crash v (seen_at g.D.Disk.state v c.self.view_is at)))
     (seen_runs g.D.Disk.state (g.D.Disk.state c.remove_item.new.volume.disk) c.self.view_is c.in_err-number.ensures.runs)
     c.remove_item.new.volume.known c.self.inside.desk c.in_err-number.field-0.0 (seen_desk c.self.view_is)
@@ -28,7 +28,7 @@ pub returns-in_err-note-clause-does : goal.returns-in_err-note-clause-does
 returns-in_err-note-clause-does g c = λ i.
     with_err (sense g.D.Disk.state) (MayGo c.args.item i) (removed c.args.bury i) c.args.self.now _ OutOfMemory c.from_residual-in_err-note.result c.from_residual-in_err-note.ensures.1
     (removed_lost g.D.Disk.state c.args.self.now c.args.item c.args.bury i c.remove_item.new.volume.disk
-    (record { reads_one = g.met.D.Disk.reads_one c.remove_item.new.volume.disk; same_size = g.met.D.Disk.same_size c.remove_item.new.volume.disk })
+    (record { same_size = g.met.D.Disk.same_size c.remove_item.new.volume.disk })
     (λ v at. seen_leaves g.D.Disk.state (g.D.Disk.state c.remove_item.new.volume.disk) (StandsLast v) c.self.view_is (c.in_ok-number.ensures.crash v (seen_at g.D.Disk.state v c.self.view_is at)))
     (seen_runs g.D.Disk.state (g.D.Disk.state c.remove_item.new.volume.disk) c.self.view_is c.in_ok-number.ensures.runs)
     c.remove_item.new.volume.known c.note.new.self)
@@ -36,7 +36,7 @@ returns-in_err-note-clause-does g c = λ i.
 pub returns-clause-does : goal.returns-clause-does
 returns-clause-does g c = λ i.
     removed_told g.D.Disk.state c.args.self.now c.args.item c.args.bury i c.remove_item.new.volume.disk
-    (record { reads_one = g.met.D.Disk.reads_one c.remove_item.new.volume.disk; same_size = g.met.D.Disk.same_size c.remove_item.new.volume.disk })
+    (record { same_size = g.met.D.Disk.same_size c.remove_item.new.volume.disk })
     (λ v at. seen_leaves g.D.Disk.state (g.D.Disk.state c.remove_item.new.volume.disk) (StandsLast v) c.self.view_is (c.in_ok-number.ensures.crash v (seen_at g.D.Disk.state v c.self.view_is at)))
     (seen_runs g.D.Disk.state (g.D.Disk.state c.remove_item.new.volume.disk) c.self.view_is c.in_ok-number.ensures.runs)
     c.remove_item.new.volume.known c.note.new.self c.in_ok-number.number c.in_ok-number.ensures.usable

@@ -27,7 +27,7 @@ returns-in_err-cut-clause-does g c =
 pub returns-clause-does : goal.returns-clause-does
 returns-clause-does g c =
     one_read g.D.Disk.state (putting.IsHere c.args.item c.args.span) c.args.self.now c.bytes.new.self.disk c.bytes.new.self.known c.self.inside.desk as_it_is c.bytes.result
-    (record { reads_one = g.met.D.Disk.reads_one c.bytes.new.self.disk; same_size = g.met.D.Disk.same_size c.bytes.new.self.disk })
+    (record { same_size = g.met.D.Disk.same_size c.bytes.new.self.disk })
     (λ v at. seen_leaves g.D.Disk.state (g.D.Disk.state c.bytes.new.self.disk) (StandsLast v) c.self.view_is (c.bytes.ensures.crash v (seen_at g.D.Disk.state v c.self.view_is at)))
     (seen_runs g.D.Disk.state (g.D.Disk.state c.bytes.new.self.disk) c.self.view_is c.bytes.ensures.runs)
     (seen_desk c.self.view_is) c.bytes.ensures.usable (λ s h p. c.bytes.ensures.ok s.volume (seen_at g.D.Disk.state s.volume c.self.view_is h.volume)) (λ s h. refl)

@@ -3,4 +3,4 @@ use Rattle.cf_volume.specs.Copies.{CopiesAll}
 use Rattle.cf_volume.proofs.copy.clusters.copy_all.Given as goal
 
 abbrev pub invariant-loop-pair : goal.invariant-loop-pair
-invariant-loop-pair g l = CopiesAll l.source (take l.pair-index l.source) (g.D.Disk.state l.fn.disk) (g.D.Disk.state l.disk) l.fn.held l.held l.extents
+invariant-loop-pair g l = CopiesAll l.source (take l.pair-index l.source) (g.G.Ground.state l.fn.ground) (g.G.Ground.state l.ground) l.fn.held l.held l.extents

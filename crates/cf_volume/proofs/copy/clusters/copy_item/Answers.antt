@@ -10,9 +10,9 @@ returns-clause-copied g c = record {
   extents = c.copy_all.new.extents;
   table = c.in_ok-put_row.ensures.ok;
   room = c.in_ok-put_row.ensures.room;
-  all = subst (λ (l : List (ℕ × ℕ)). CopiesAll l l (g.D.Disk.state c.args.disk.now) (g.D.Disk.state c.copy_all.new.disk) c.args.held.now c.copy_all.new.held c.copy_all.new.extents) c.pairs.ensures.value c.in_ok-copy_all-in-Some.ensures.copied;
+  all = subst (λ (l : List (ℕ × ℕ)). CopiesAll l l (g.G.Ground.state c.args.ground.now) (g.G.Ground.state c.copy_all.new.ground) c.args.held.now c.copy_all.new.held c.copy_all.new.extents) c.pairs.ensures.value c.in_ok-copy_all-in-Some.ensures.copied;
 }
 
 pub returns-clause-ran : goal.returns-clause-ran
 returns-clause-ran g c = λ r found.
-    source_ran c.args.rows.now.rows c.args.from c.in-Some.source.now r c.pairs.result.now (g.D.Disk.state c.args.disk.now) (g.D.Disk.state c.copy_all.new.disk) (sym c.in-Some.ensures) found c.pairs.ensures.value c.copy_all.ensures.ran
+    source_ran c.args.rows.now.rows c.args.from c.in-Some.source.now r c.pairs.result.now (g.G.Ground.state c.args.ground.now) (g.G.Ground.state c.copy_all.new.ground) (sym c.in-Some.ensures) found c.pairs.ensures.value c.copy_all.ensures.ran

@@ -10,12 +10,12 @@ copy_item-requires-clause-inside g c = λ r found. found_inside (λ (k : ℕ). k
 
 pub returns-clause-at : goal.returns-clause-at
 returns-clause-at g c = λ v change i at copy fits.
-    copied_put (g.D.Disk.state c.args.disk.now) (g.D.Disk.state c.copy_item.new.disk) (known_of c.args.parts.now) c.args.row c.args.from c.copy_item.new.held c.copy_item.new.rows c.set_next.new.self
+    copied_put (g.G.Ground.state c.args.ground.now) (g.G.Ground.state c.copy_item.new.ground) (known_of c.args.parts.now) c.args.row c.args.from c.copy_item.new.held c.copy_item.new.rows c.set_next.new.self
     c.requires.steady c.image_len.ensures.rises c.image_len.ensures.kept c.requires.new c.requires.next c.requires.fresh c.in_ok-copy_item.ensures.copied c.set_next.ensures c.saturating_add-parts.result v change i at copy
-    (record { reads_one = g.met.D.Disk.reads_one c.args.disk.now; same_size = g.met.D.Disk.same_size c.args.disk.now }) fits
+    (record { same_size = g.met.G.Ground.same_size c.args.ground.now }) fits
     (counted c.args.parts.now.put_since c.args.blocks (length c.in_ok-copy_item.ensures.copied.source.extents) c.saturating_add-parts.result (c.requires.blocks c.in_ok-copy_item.ensures.copied.source c.in_ok-copy_item.ensures.copied.found) c.saturating_add-parts.ensures)
 
 pub returns-clause-steady : goal.returns-clause-steady
 returns-clause-steady g c =
-    copied_steady (g.D.Disk.state c.args.disk.now) (g.D.Disk.state c.copy_item.new.disk) (known_of c.args.parts.now) c.args.row c.args.from c.copy_item.new.held c.copy_item.new.rows c.set_next.new.self
+    copied_steady (g.G.Ground.state c.args.ground.now) (g.G.Ground.state c.copy_item.new.ground) (known_of c.args.parts.now) c.args.row c.args.from c.copy_item.new.held c.copy_item.new.rows c.set_next.new.self
     c.requires.steady c.image_len.ensures.rises c.image_len.ensures.kept c.requires.new c.requires.next c.requires.fresh c.in_ok-copy_item.ensures.copied c.set_next.ensures c.saturating_add-parts.result c.requires.number

@@ -17,22 +17,22 @@ pub returns-clause-put : goal.returns-clause-put
 returns-clause-put g c = λ v at.
     let fits = subst (λ (x : Change). Fits x c.args.parts.now.contents.rows.rows) c.in-Copy.is c.requires.fits in
     let source = some_row (row_of c.args.parts.now.contents.rows.rows c.in-Copy.from) (source_there c.args.parts.now.contents.rows.rows c.in-Copy.from fits.2) in
-    let copy = copy_arrives (g.D.Disk.state c.args.disk.now) (known_of c.args.parts.now) v c.in_ok-row-in-Copy.row source.0 c.in-Copy.item c.in-Copy.from c.in-Copy.parent c.in-Copy.name _ at refl source.1 (c.in_ok-row-in-Copy.ensures.means source.0 source.1) in
-    subst (λ (x : Change). IsPut x v (g.D.Disk.state c.args.disk.now) (g.D.Disk.state c.put_judged.new.disk) (known_of c.put_judged.new.parts) c.put_judged.result) (sym c.in-Copy.is)
+    let copy = copy_arrives (g.G.Ground.state c.args.ground.now) (known_of c.args.parts.now) v c.in_ok-row-in-Copy.row source.0 c.in-Copy.item c.in-Copy.from c.in-Copy.parent c.in-Copy.name _ at refl source.1 (c.in_ok-row-in-Copy.ensures.means source.0 source.1) in
+    subst (λ (x : Change). IsPut x v (g.G.Ground.state c.args.ground.now) (g.G.Ground.state c.put_judged.new.ground) (known_of c.put_judged.new.parts) c.put_judged.result) (sym c.in-Copy.is)
     (c.put_judged.ensures.put v (change.Copy c.in-Copy.item c.in-Copy.from c.in-Copy.parent c.in-Copy.name) copy.0 at copy.1)
 
 pub returns-clause-written : goal.returns-clause-written
 returns-clause-written g c = λ v at.
     let fits = subst (λ (x : Change). Fits x c.args.parts.now.contents.rows.rows) c.in-Copy.is c.requires.fits in
     let source = some_row (row_of c.args.parts.now.contents.rows.rows c.in-Copy.from) (source_there c.args.parts.now.contents.rows.rows c.in-Copy.from fits.2) in
-    let copy = copy_arrives (g.D.Disk.state c.args.disk.now) (known_of c.args.parts.now) v c.in_ok-row-in-Copy.row source.0 c.in-Copy.item c.in-Copy.from c.in-Copy.parent c.in-Copy.name _ at refl source.1 (c.in_ok-row-in-Copy.ensures.means source.0 source.1) in
-    subst (λ (x : Change). WritesAtMost (most_of_change v.items x) (g.D.Disk.state c.args.disk.now) (g.D.Disk.state c.put_judged.new.disk)) (sym c.in-Copy.is)
+    let copy = copy_arrives (g.G.Ground.state c.args.ground.now) (known_of c.args.parts.now) v c.in_ok-row-in-Copy.row source.0 c.in-Copy.item c.in-Copy.from c.in-Copy.parent c.in-Copy.name _ at refl source.1 (c.in_ok-row-in-Copy.ensures.means source.0 source.1) in
+    subst (λ (x : Change). WritesAtMost (most_of_change v.items x) (g.G.Ground.state c.args.ground.now) (g.G.Ground.state c.put_judged.new.ground)) (sym c.in-Copy.is)
     (c.put_judged.ensures.written v (change.Copy c.in-Copy.item c.in-Copy.from c.in-Copy.parent c.in-Copy.name) copy.0 at copy.1)
 
 pub returns-clause-aimed : goal.returns-clause-aimed
 returns-clause-aimed g c = λ v at.
     let fits = subst (λ (x : Change). Fits x c.args.parts.now.contents.rows.rows) c.in-Copy.is c.requires.fits in
     let source = some_row (row_of c.args.parts.now.contents.rows.rows c.in-Copy.from) (source_there c.args.parts.now.contents.rows.rows c.in-Copy.from fits.2) in
-    let copy = copy_arrives (g.D.Disk.state c.args.disk.now) (known_of c.args.parts.now) v c.in_ok-row-in-Copy.row source.0 c.in-Copy.item c.in-Copy.from c.in-Copy.parent c.in-Copy.name _ at refl source.1 (c.in_ok-row-in-Copy.ensures.means source.0 source.1) in
-    subst (λ (x : Change). FollowsAim x v (g.D.Disk.state c.args.disk.now) c.put_judged.result) (sym c.in-Copy.is)
+    let copy = copy_arrives (g.G.Ground.state c.args.ground.now) (known_of c.args.parts.now) v c.in_ok-row-in-Copy.row source.0 c.in-Copy.item c.in-Copy.from c.in-Copy.parent c.in-Copy.name _ at refl source.1 (c.in_ok-row-in-Copy.ensures.means source.0 source.1) in
+    subst (λ (x : Change). FollowsAim x v (g.G.Ground.state c.args.ground.now) c.put_judged.result) (sym c.in-Copy.is)
     (c.put_judged.ensures.aimed v (change.Copy c.in-Copy.item c.in-Copy.from c.in-Copy.parent c.in-Copy.name) copy.0 at copy.1)

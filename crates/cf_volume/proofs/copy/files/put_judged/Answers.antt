@@ -11,21 +11,21 @@ use Rattle.cf_volume.proofs.copy.files.put_judged.Goals as goal
 pub returns-in-Some-clause-put : goal.returns-in-Some-clause-put
 returns-in-Some-clause-put g c = λ v change i at copy.
     let source = some_row (row_of c.args.parts.now.contents.rows.rows c.args.from) c.requires.there in
-    let puts = copy_puts (g.D.Disk.state c.args.disk.now) (known_of c.args.parts.now) v change c.args.row source.0 i c.args.from at source.1 copy ∙ sym (c.block_count-blocks.ensures source.0 source.1) in
+    let puts = copy_puts (g.G.Ground.state c.args.ground.now) (known_of c.args.parts.now) v change c.args.row source.0 i c.args.from at source.1 copy ∙ sym (c.block_count-blocks.ensures source.0 source.1) in
     inr (c.in-Some.ensures.why v change i at copy.arrives puts)
 
 pub returns-then-branch-clause-put : goal.returns-then-branch-clause-put
 returns-then-branch-clause-put g c = λ v change i at copy.
     let source = some_row (row_of c.args.parts.now.contents.rows.rows c.args.from) c.requires.there in
-    let puts = copy_puts (g.D.Disk.state c.args.disk.now) (known_of c.args.parts.now) v change c.args.row source.0 i c.args.from at source.1 copy ∙ sym (c.block_count-blocks.ensures source.0 source.1) in (
+    let puts = copy_puts (g.G.Ground.state c.args.ground.now) (known_of c.args.parts.now) v change c.args.row source.0 i c.args.from at source.1 copy ∙ sym (c.block_count-blocks.ensures source.0 source.1) in (
       c.in_default.ensures.why v change i at copy.arrives puts,
-      room_needed (g.D.Disk.state c.args.disk.now) (known_of c.args.parts.now) v change c.block_count-blocks.result at puts (c.in_ok-waits_for_room.ensures.waits c.if-branch.true),
+      room_needed (g.G.Ground.state c.args.ground.now) (known_of c.args.parts.now) v change c.block_count-blocks.result at puts (c.in_ok-waits_for_room.ensures.waits c.if-branch.true),
     )
 
 pub returns-in-Ok-clause-put : goal.returns-in-Ok-clause-put
 returns-in-Ok-clause-put g c = λ v change i at copy.
     let source = some_row (row_of c.args.parts.now.contents.rows.rows c.args.from) c.requires.there in
-    let puts = copy_puts (g.D.Disk.state c.args.disk.now) (known_of c.args.parts.now) v change c.args.row source.0 i c.args.from at source.1 copy ∙ sym (c.block_count-blocks.ensures source.0 source.1) in (
+    let puts = copy_puts (g.G.Ground.state c.args.ground.now) (known_of c.args.parts.now) v change c.args.row source.0 i c.args.from at source.1 copy ∙ sym (c.block_count-blocks.ensures source.0 source.1) in (
       c.requires.number ∙ (λ j. usn_after (at.now.epoch j) (at.now.place j)),
       c.in_default.ensures.why v change i at copy.arrives puts,
       c.in-Ok.ensures.at v change i at copy (c.in_default.ensures.fits v change i at copy.arrives),
@@ -34,14 +34,14 @@ returns-in-Ok-clause-put g c = λ v change i at copy.
 pub returns-in-Ok-clause-written : goal.returns-in-Ok-clause-written
 returns-in-Ok-clause-written g c = λ v change i at copy.
     let source = some_row (row_of c.args.parts.now.contents.rows.rows c.args.from) c.requires.there in
-    puts_write (g.D.Disk.state c.args.disk.now) (g.D.Disk.state c.put_copied.new.disk) v change _
-    (copy_puts (g.D.Disk.state c.args.disk.now) (known_of c.args.parts.now) v change c.args.row source.0 i c.args.from at source.1 copy) (c.in-Ok.ensures.ran source.0 source.1)
+    puts_write (g.G.Ground.state c.args.ground.now) (g.G.Ground.state c.put_copied.new.ground) v change _
+    (copy_puts (g.G.Ground.state c.args.ground.now) (known_of c.args.parts.now) v change c.args.row source.0 i c.args.from at source.1 copy) (c.in-Ok.ensures.ran source.0 source.1)
 
 pub returns-in-Err-clause-written : goal.returns-in-Err-clause-written
 returns-in-Err-clause-written g c = λ v change i at copy.
     let source = some_row (row_of c.args.parts.now.contents.rows.rows c.args.from) c.requires.there in
-    puts_write (g.D.Disk.state c.args.disk.now) (g.D.Disk.state c.put_copied.new.disk) v change _
-    (copy_puts (g.D.Disk.state c.args.disk.now) (known_of c.args.parts.now) v change c.args.row source.0 i c.args.from at source.1 copy) (c.in-Err.ensures.ran source.0 source.1)
+    puts_write (g.G.Ground.state c.args.ground.now) (g.G.Ground.state c.put_copied.new.ground) v change _
+    (copy_puts (g.G.Ground.state c.args.ground.now) (known_of c.args.parts.now) v change c.args.row source.0 i c.args.from at source.1 copy) (c.in-Err.ensures.ran source.0 source.1)
 
 pub returns-then-branch-clause-aimed : goal.returns-then-branch-clause-aimed
 returns-then-branch-clause-aimed g c = λ v change i at copy. λ n wanted. c.in_ok-waits_for_room.ensures.wanted c.if-branch.true n wanted ∙ at.now.count
@@ -49,6 +49,6 @@ returns-then-branch-clause-aimed g c = λ v change i at copy. λ n wanted. c.in_
 pub returns-in-Ok-clause-aimed : goal.returns-in-Ok-clause-aimed
 returns-in-Ok-clause-aimed g c = λ v change i at copy.
     let source = some_row (row_of c.args.parts.now.contents.rows.rows c.args.from) c.requires.there in
-    let puts = copy_puts (g.D.Disk.state c.args.disk.now) (known_of c.args.parts.now) v change c.args.row source.0 i c.args.from at source.1 copy ∙ sym (c.block_count-blocks.ensures source.0 source.1) in
-    put_wanted (g.D.Disk.state c.args.disk.now) (known_of c.args.parts.now) v change c.block_count-blocks.result at puts
-    (g.D.Disk.state c.args.disk.now).settings.aim (c.in_ok-waits_for_room.ensures.light c.if-branch.false)
+    let puts = copy_puts (g.G.Ground.state c.args.ground.now) (known_of c.args.parts.now) v change c.args.row source.0 i c.args.from at source.1 copy ∙ sym (c.block_count-blocks.ensures source.0 source.1) in
+    put_wanted (g.G.Ground.state c.args.ground.now) (known_of c.args.parts.now) v change c.block_count-blocks.result at puts
+    (g.G.Ground.state c.args.ground.now).settings.aim (c.in_ok-waits_for_room.ensures.light c.if-branch.false)

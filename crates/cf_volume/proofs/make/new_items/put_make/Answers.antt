@@ -12,12 +12,12 @@ use Rattle.cf_volume.proofs.make.new_items.put_make.Goals as goal
 
 pub returns-clause-put : goal.returns-clause-put
 returns-clause-put g c = λ v at.
-    subst (λ (x : Change). IsPut x v (g.D.Disk.state c.args.disk.now) (g.D.Disk.state c.args.disk.now) (known_of c.put_new.new.parts) c.put_new.result) (sym c.in-Make.is)
+    subst (λ (x : Change). IsPut x v (g.G.Ground.state c.args.ground.now) (g.G.Ground.state c.args.ground.now) (known_of c.put_new.new.parts) c.put_new.result) (sym c.in-Make.is)
     (c.put_new.ensures.put v (change.Make c.in-Make.item c.in-Make.parent c.in-Make.name c.in-Make.kind c.in-Make.size c.in-Make.identity)
     (made c.in-Make.item c.in-Make.parent c.in-Make.name c.in-Make.kind c.in-Make.size c.in-Make.identity (pin_of v.items c.in-Make.parent) (next_number v)) (size_made c.in-Make.kind c.in-Make.size) at
-    (make_arrives (g.D.Disk.state c.args.disk.now) (known_of c.args.parts.now) v c.in_ok-row-in-Make.row c.in-Make.item c.in-Make.parent c.in-Make.name c.in-Make.kind c.in-Make.size c.in-Make.identity _ at refl c.in_ok-row-in-Make.ensures.means))
+    (make_arrives (g.G.Ground.state c.args.ground.now) (known_of c.args.parts.now) v c.in_ok-row-in-Make.row c.in-Make.item c.in-Make.parent c.in-Make.name c.in-Make.kind c.in-Make.size c.in-Make.identity _ at refl c.in_ok-row-in-Make.ensures.means))
 
 pub returns-clause-aimed : goal.returns-clause-aimed
 returns-clause-aimed g c = λ v.
-    subst (λ (x : Change). FollowsAim x v (g.D.Disk.state c.args.disk.now) c.put_new.result) (sym c.in-Make.is)
+    subst (λ (x : Change). FollowsAim x v (g.G.Ground.state c.args.ground.now) c.put_new.result) (sym c.in-Make.is)
     (c.put_new.ensures.aimed v (change.Make c.in-Make.item c.in-Make.parent c.in-Make.name c.in-Make.kind c.in-Make.size c.in-Make.identity) refl)

@@ -11,25 +11,25 @@ use Rattle.cf_volume.proofs.make.new_items.refusal_of_new.Goals as goal
 
 pub returns-then-lacks_row-clause-why : goal.returns-then-lacks_row-clause-why
 returns-then-lacks_row-clause-why g c = λ v change i at arrives puts.
-    arrival_refused (g.D.Disk.state c.args.disk.now) (known_of c.args.parts.now) v change c.args.row.now i at c.image_len.ensures.kept c.requires.new arrives c.requires.anchor c.tell_stored.ensures
+    arrival_refused (g.G.Ground.state c.args.ground.now) (known_of c.args.parts.now) v change c.args.row.now i at c.image_len.ensures.kept c.requires.new arrives c.requires.anchor c.tell_stored.ensures
     (length (spell_image (image_of c.args.parts.now.contents))) (image_len_is (known_of c.args.parts.now)) c.lacks_row.result c.lacks_row.ensures c.args.blocks puts c.requires.place c.requires.id
     ∙ ap (λ (t : Bool). cond t (Some code.TableFull) (cond (passes c.args.parts.now.limit (how_many is_now c.args.parts.now.held) c.args.blocks) (Some code.Full) None)) c.if-lacks_row.true
 
 pub returns-then-is_full-clause-why : goal.returns-then-is_full-clause-why
 returns-then-is_full-clause-why g c = λ v change i at arrives puts.
-    arrival_refused (g.D.Disk.state c.args.disk.now) (known_of c.args.parts.now) v change c.args.row.now i at c.image_len.ensures.kept c.requires.new arrives c.requires.anchor c.tell_stored.ensures
+    arrival_refused (g.G.Ground.state c.args.ground.now) (known_of c.args.parts.now) v change c.args.row.now i at c.image_len.ensures.kept c.requires.new arrives c.requires.anchor c.tell_stored.ensures
     (length (spell_image (image_of c.args.parts.now.contents))) (image_len_is (known_of c.args.parts.now)) c.lacks_row.result c.lacks_row.ensures c.args.blocks puts c.requires.place c.requires.id
     ∙ ap (λ (t : Bool). cond t (Some code.TableFull) (cond (passes c.args.parts.now.limit (how_many is_now c.args.parts.now.held) c.args.blocks) (Some code.Full) None)) c.if-lacks_row.false
     ∙ ap (λ (t : Bool). cond t (Some code.Full) None) (sym c.is_full.ensures ∙ c.if-is_full.true)
 
 pub returns-clause-why : goal.returns-clause-why
 returns-clause-why g c = λ v change i at arrives puts.
-    arrival_refused (g.D.Disk.state c.args.disk.now) (known_of c.args.parts.now) v change c.args.row.now i at c.image_len.ensures.kept c.requires.new arrives c.requires.anchor c.tell_stored.ensures
+    arrival_refused (g.G.Ground.state c.args.ground.now) (known_of c.args.parts.now) v change c.args.row.now i at c.image_len.ensures.kept c.requires.new arrives c.requires.anchor c.tell_stored.ensures
     (length (spell_image (image_of c.args.parts.now.contents))) (image_len_is (known_of c.args.parts.now)) c.lacks_row.result c.lacks_row.ensures c.args.blocks puts c.requires.place c.requires.id
     ∙ ap (λ (t : Bool). cond t (Some code.TableFull) (cond (passes c.args.parts.now.limit (how_many is_now c.args.parts.now.held) c.args.blocks) (Some code.Full) None)) c.if-lacks_row.false
     ∙ ap (λ (t : Bool). cond t (Some code.Full) None) (sym c.is_full.ensures ∙ c.if-is_full.false)
 
 pub returns-clause-fits : goal.returns-clause-fits
 returns-clause-fits g c = λ v change i at arrives.
-    arrival_fits (g.D.Disk.state c.args.disk.now) (known_of c.args.parts.now) v change c.args.row.now i at c.image_len.ensures.kept c.requires.new arrives c.requires.anchor c.tell_stored.ensures
+    arrival_fits (g.G.Ground.state c.args.ground.now) (known_of c.args.parts.now) v change c.args.row.now i at c.image_len.ensures.kept c.requires.new arrives c.requires.anchor c.tell_stored.ensures
     (length (spell_image (image_of c.args.parts.now.contents))) (image_len_is (known_of c.args.parts.now)) c.lacks_row.result c.lacks_row.ensures c.if-lacks_row.false

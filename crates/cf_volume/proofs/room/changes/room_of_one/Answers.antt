@@ -9,4 +9,4 @@ returns-in_ok-full-in-Some g c = λ v at.
     let kind = fits_stays c.args.change.now c.in-Some.row.now c.in-Some.ensures.fits in
     room_is c.args.change.now v c.in_ok-full-in-Some.full c.is_full.result (numbers_left c.args.change.now v (needs_no_id c.args.change.now kind) (omega (arith, c.in-Some.ensures.place, at.now.place)))
     (c.in_ok-full-in-Some.ensures v at (c.in_ok-blocks-in-Some.ensures v at))
-    (clusters_full (g.D.Disk.state c.args.disk.now) (known_of c.args.parts.now) v c.args.change.now c.in_ok-blocks-in-Some.blocks at (c.in_ok-blocks-in-Some.ensures v at) ∙ sym c.is_full.ensures)
+    (clusters_full (g.G.Ground.state c.args.ground.now) (known_of c.args.parts.now) v c.args.change.now c.in_ok-blocks-in-Some.blocks at (c.in_ok-blocks-in-Some.ensures v at) ∙ sym c.is_full.ensures)

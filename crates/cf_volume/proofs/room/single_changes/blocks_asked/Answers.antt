@@ -9,5 +9,5 @@ blocks_put-requires g c = fits_end c.args.change.now c.args.row.now c.requires.f
 
 pub returns : goal.returns
 returns g c = λ v at.
-    let puts = row_puts (g.D.Disk.state c.args.disk.now) (known_of c.args.parts.now) v c.args.change.now c.args.row.now c.in_ok-blocks.blocks.items at (fits_stays c.args.change.now c.args.row.now c.requires.fits) c.requires.found c.in_ok-blocks.ensures in
+    let puts = row_puts (g.G.Ground.state c.args.ground.now) (known_of c.args.parts.now) v c.args.change.now c.args.row.now c.in_ok-blocks.blocks.items at (fits_stays c.args.change.now c.args.row.now c.requires.fits) c.requires.found c.in_ok-blocks.ensures in
     omega (arith, puts, c.len-count.ensures, c.in_ok-blocks.blocks.ok)

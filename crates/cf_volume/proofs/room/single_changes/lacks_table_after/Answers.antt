@@ -14,6 +14,6 @@ use Rattle.cf_volume.proofs.room.single_changes.lacks_table_after.Goals as goal
 pub returns-then-surely_fits : goal.returns-then-surely_fits
 returns-then-surely_fits g c = λ v at puts.
     let room = c.surely_fits.ensures c.if-surely_fits.true in
-    short_table (g.D.Disk.state c.args.disk.now) (known_of c.args.parts.now) v c.args.change.now c.args.row.now at c.image_len.ensures.rises c.image_len.ensures.kept (fits_stays c.args.change.now c.args.row.now c.requires.fits) c.requires.found
+    short_table (g.G.Ground.state c.args.ground.now) (known_of c.args.parts.now) v c.args.change.now c.args.row.now at c.image_len.ensures.rises c.image_len.ensures.kept (fits_stays c.args.change.now c.args.row.now c.requires.fits) c.requires.found
     (found_of (λ x. IsLater (usn_after c.args.parts.now.contents.last.epoch c.args.parts.now.contents.last.place) x) c.args.parts.now.contents.rows.rows (item_of_change c.args.change.now) c.args.row.now c.requires.steady.later c.requires.found)
     c.args.blocks room.0 (length (spell_image (image_of c.args.parts.now.contents))) puts room.1 (image_len_is (known_of c.args.parts.now)) room.2

@@ -30,5 +30,5 @@ returns g c = λ v at.
       spellable = means.spellable (found_table c.args.parts.now.contents.rows.rows (item_of_change c.args.change.now) c.args.row.now c.image_len.ensures.kept c.requires.found).spellable;
       puts = means.blocks;
     } in
-    table_is (g.D.Disk.state c.args.disk.now) (known_of c.args.parts.now) v c.args.change.now c.args.row.now c.in_ok-planned.planned.row c.in_ok-planned.planned.blocks.items at c.image_len.ensures.rises c.image_len.ensures.kept
+    table_is (g.G.Ground.state c.args.ground.now) (known_of c.args.parts.now) v c.args.change.now c.args.row.now c.in_ok-planned.planned.row c.in_ok-planned.planned.blocks.items at c.image_len.ensures.rises c.image_len.ensures.kept
     (fits_stays c.args.change.now c.args.row.now c.requires.fits) c.requires.found plan (length (spell_image (image_of c.args.parts.now.contents))) (image_len_is (known_of c.args.parts.now)) c.is_too_long_with-long.result c.is_too_long_with-long.ensures

@@ -23,7 +23,7 @@ pub returns-then-branch-clause-put : goal.returns-then-branch-clause-put
 returns-then-branch-clause-put g c = λ v at.
     let row = some_row (row_of c.args.parts.now.contents.rows.rows (item_of_change c.args.change.now)) c.requires.there in (
       c.in_default.ensures.why v at,
-      needs_room (g.D.Disk.state c.args.disk.now) (known_of c.args.parts.now) v c.args.change.now row.0 c.in_ok-planned.planned.row c.in_ok-planned.planned.blocks.items at c.requires.kind row.1 (c.in_ok-planned.ensures row.0 row.1)
+      needs_room (g.G.Ground.state c.args.ground.now) (known_of c.args.parts.now) v c.args.change.now row.0 c.in_ok-planned.planned.row c.in_ok-planned.planned.blocks.items at c.requires.kind row.1 (c.in_ok-planned.ensures row.0 row.1)
           (subst (MayWait (known_of c.args.parts.now)) (let e : c.len.result ≡ length c.in_ok-planned.planned.blocks.items = omega (arith, c.len.ensures, c.in_ok-planned.planned.blocks.ok) in e) (c.in_ok-waits_for_room.ensures.waits c.if-branch.true)),
     )
 
@@ -37,12 +37,12 @@ returns-in-Ok-clause-put g c = λ v at. (
 pub returns-in-Ok-clause-written : goal.returns-in-Ok-clause-written
 returns-in-Ok-clause-written g c = λ v at.
     let row = some_row (row_of c.args.parts.now.contents.rows.rows (item_of_change c.args.change.now)) c.requires.there in
-    plan_writes (g.D.Disk.state c.args.disk.now) (g.D.Disk.state c.put_planned.new.disk) (known_of c.args.parts.now) v c.args.change.now _ _ row.0 c.in_ok-planned.planned.row c.in_ok-planned.planned.blocks.items at c.requires.kind row.1 (c.in_ok-planned.ensures row.0 row.1) c.in-Ok.ensures.ran
+    plan_writes (g.G.Ground.state c.args.ground.now) (g.G.Ground.state c.put_planned.new.ground) (known_of c.args.parts.now) v c.args.change.now _ _ row.0 c.in_ok-planned.planned.row c.in_ok-planned.planned.blocks.items at c.requires.kind row.1 (c.in_ok-planned.ensures row.0 row.1) c.in-Ok.ensures.ran
 
 pub returns-in-Err-clause-written : goal.returns-in-Err-clause-written
 returns-in-Err-clause-written g c = λ v at.
     let row = some_row (row_of c.args.parts.now.contents.rows.rows (item_of_change c.args.change.now)) c.requires.there in
-    plan_writes (g.D.Disk.state c.args.disk.now) (g.D.Disk.state c.put_planned.new.disk) (known_of c.args.parts.now) v c.args.change.now _ _ row.0 c.in_ok-planned.planned.row c.in_ok-planned.planned.blocks.items at c.requires.kind row.1 (c.in_ok-planned.ensures row.0 row.1) c.in-Err.ensures.ran
+    plan_writes (g.G.Ground.state c.args.ground.now) (g.G.Ground.state c.put_planned.new.ground) (known_of c.args.parts.now) v c.args.change.now _ _ row.0 c.in_ok-planned.planned.row c.in_ok-planned.planned.blocks.items at c.requires.kind row.1 (c.in_ok-planned.ensures row.0 row.1) c.in-Err.ensures.ran
 
 pub returns-then-branch-clause-aimed : goal.returns-then-branch-clause-aimed
 returns-then-branch-clause-aimed g c = λ v at. λ n wanted. c.in_ok-waits_for_room.ensures.wanted c.if-branch.true n wanted ∙ at.now.count
@@ -50,7 +50,7 @@ returns-then-branch-clause-aimed g c = λ v at. λ n wanted. c.in_ok-waits_for_r
 pub returns-in-Ok-clause-aimed : goal.returns-in-Ok-clause-aimed
 returns-in-Ok-clause-aimed g c = λ v at.
     let row = some_row (row_of c.args.parts.now.contents.rows.rows (item_of_change c.args.change.now)) c.requires.there in
-    let puts = plan_puts (g.D.Disk.state c.args.disk.now) (known_of c.args.parts.now) v c.args.change.now (pin_for c.args.change.now c.args.parts.now.contents.rows.rows) (usn_after c.args.parts.now.contents.last.epoch c.args.parts.now.contents.last.place)
+    let puts = plan_puts (g.G.Ground.state c.args.ground.now) (known_of c.args.parts.now) v c.args.change.now (pin_for c.args.change.now c.args.parts.now.contents.rows.rows) (usn_after c.args.parts.now.contents.last.epoch c.args.parts.now.contents.last.place)
     row.0 c.in_ok-planned.planned.row c.in_ok-planned.planned.blocks.items at c.requires.kind row.1 (c.in_ok-planned.ensures row.0 row.1) in
-    put_wanted (g.D.Disk.state c.args.disk.now) (known_of c.args.parts.now) v c.args.change.now c.len.result at (omega (arith, puts, c.len.ensures, c.in_ok-planned.planned.blocks.ok))
-    (g.D.Disk.state c.args.disk.now).settings.aim (c.in_ok-waits_for_room.ensures.light c.if-branch.false)
+    put_wanted (g.G.Ground.state c.args.ground.now) (known_of c.args.parts.now) v c.args.change.now c.len.result at (omega (arith, puts, c.len.ensures, c.in_ok-planned.planned.blocks.ok))
+    (g.G.Ground.state c.args.ground.now).settings.aim (c.in_ok-waits_for_room.ensures.light c.if-branch.false)

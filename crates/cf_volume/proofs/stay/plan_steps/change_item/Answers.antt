@@ -11,7 +11,7 @@ returns-clause-carried g c = record {
   extents = c.settle_blocks.new.extents;
   table = c.in_ok-put_row.ensures.ok;
   room = c.in_ok-put_row.ensures.room;
-  settles = subst (λ (l : List ℕ). Settles c.args.change.now c.in-Some.row.now l c.args.planned.row.here (g.D.Disk.state c.args.disk.now) (g.D.Disk.state c.settle_blocks.new.disk) c.args.held.now c.settle_blocks.new.held c.args.planned.row.extents c.settle_blocks.new.extents)
+  settles = subst (λ (l : List ℕ). Settles c.args.change.now c.in-Some.row.now l c.args.planned.row.here (g.G.Ground.state c.args.ground.now) (g.G.Ground.state c.settle_blocks.new.ground) c.args.held.now c.settle_blocks.new.held c.args.planned.row.extents c.settle_blocks.new.extents)
       c.deref.ensures.value c.in_ok-settle_blocks-in-Some.ensures.settled;
 }
 
@@ -19,13 +19,13 @@ pub returns-clause-crash : goal.returns-clause-crash
 returns-clause-crash g c = c.settle_blocks.ensures.crash
 
 pub returns-clause-ran : goal.returns-clause-ran
-returns-clause-ran g c = subst (λ (l : List ℕ). Ran (4096 * length l) (g.D.Disk.state c.args.disk.now) (g.D.Disk.state c.settle_blocks.new.disk)) c.deref.ensures.value c.settle_blocks.ensures.ran
+returns-clause-ran g c = subst (λ (l : List ℕ). Ran (4096 * length l) (g.G.Ground.state c.args.ground.now) (g.G.Ground.state c.settle_blocks.new.ground)) c.deref.ensures.value c.settle_blocks.ensures.ran
 
 pub returns-in_err-put_row-clause-crash : goal.returns-in_err-put_row-clause-crash
 returns-in_err-put_row-clause-crash g c = c.settle_blocks.ensures.crash
 
 pub returns-in_err-put_row-clause-ran : goal.returns-in_err-put_row-clause-ran
-returns-in_err-put_row-clause-ran g c = subst (λ (l : List ℕ). Ran (4096 * length l) (g.D.Disk.state c.args.disk.now) (g.D.Disk.state c.settle_blocks.new.disk)) c.deref.ensures.value c.settle_blocks.ensures.ran
+returns-in_err-put_row-clause-ran g c = subst (λ (l : List ℕ). Ran (4096 * length l) (g.G.Ground.state c.args.ground.now) (g.G.Ground.state c.settle_blocks.new.ground)) c.deref.ensures.value c.settle_blocks.ensures.ran
 
 pub put_row-requires : goal.put_row-requires
 put_row-requires g c = record { name = c.requires.spellable.name; identity = c.requires.spellable.identity }
@@ -34,7 +34,7 @@ pub returns-in_err-settle_blocks-in-Some-clause-crash : goal.returns-in_err-sett
 returns-in_err-settle_blocks-in-Some-clause-crash g c = c.settle_blocks.ensures.crash
 
 pub returns-in_err-settle_blocks-in-Some-clause-ran : goal.returns-in_err-settle_blocks-in-Some-clause-ran
-returns-in_err-settle_blocks-in-Some-clause-ran g c = subst (λ (l : List ℕ). Ran (4096 * length l) (g.D.Disk.state c.args.disk.now) (g.D.Disk.state c.settle_blocks.new.disk)) c.deref.ensures.value c.settle_blocks.ensures.ran
+returns-in_err-settle_blocks-in-Some-clause-ran g c = subst (λ (l : List ℕ). Ran (4096 * length l) (g.G.Ground.state c.args.ground.now) (g.G.Ground.state c.settle_blocks.new.ground)) c.deref.ensures.value c.settle_blocks.ensures.ran
 
 pub returns-in_err-settle_blocks-in-Some-clause-cause : goal.returns-in_err-settle_blocks-in-Some-clause-cause
-returns-in_err-settle_blocks-in-Some-clause-cause g c = stop_later c.from_residual.result c.in_err-settle_blocks-in-Some.field-0.0 (g.D.Disk.state c.args.disk.now) (g.D.Disk.state c.args.disk.now) (g.D.Disk.state c.settle_blocks.new.disk) c.from_residual.ensures.1 c.in_err-settle_blocks-in-Some.ensures.cause (omega arith) (omega arith)
+returns-in_err-settle_blocks-in-Some-clause-cause g c = stop_later c.from_residual.result c.in_err-settle_blocks-in-Some.field-0.0 (g.G.Ground.state c.args.ground.now) (g.G.Ground.state c.args.ground.now) (g.G.Ground.state c.settle_blocks.new.ground) c.from_residual.ensures.1 c.in_err-settle_blocks-in-Some.ensures.cause (omega arith) (omega arith)

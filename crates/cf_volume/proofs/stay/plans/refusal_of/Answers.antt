@@ -15,14 +15,14 @@ use Rattle.cf_volume.proofs.stay.plans.refusal_of.Goals as goal
 pub returns-then-lacks_table-clause-why : goal.returns-then-lacks_table-clause-why
 returns-then-lacks_table-clause-why g c = λ v at.
     let row = some_row (row_of c.args.parts.now.contents.rows.rows (item_of_change c.args.change.now)) c.requires.there in
-    refused_is (g.D.Disk.state c.args.disk.now) (known_of c.args.parts.now) v c.args.change.now row.0 c.args.planned.now.row c.args.planned.now.blocks.items at c.image_len.ensures.rises c.image_len.ensures.kept c.requires.kind row.1 (c.requires.plan row.0 row.1)
+    refused_is (g.G.Ground.state c.args.ground.now) (known_of c.args.parts.now) v c.args.change.now row.0 c.args.planned.now.row c.args.planned.now.blocks.items at c.image_len.ensures.rises c.image_len.ensures.kept c.requires.kind row.1 (c.requires.plan row.0 row.1)
     (length (spell_image (image_of c.args.parts.now.contents))) (image_len_is (known_of c.args.parts.now)) c.lacks_table.result (c.lacks_table.ensures row.0 row.1) c.requires.place
     ∙ ap (λ (t : Bool). cond t (Some code.TableFull) (cond (passes c.args.parts.now.limit (how_many is_now c.args.parts.now.held) (length c.args.planned.now.blocks.items)) (Some code.Full) None)) c.if-lacks_table.true
 
 pub returns-then-is_full-clause-why : goal.returns-then-is_full-clause-why
 returns-then-is_full-clause-why g c = λ v at.
     let row = some_row (row_of c.args.parts.now.contents.rows.rows (item_of_change c.args.change.now)) c.requires.there in
-    refused_is (g.D.Disk.state c.args.disk.now) (known_of c.args.parts.now) v c.args.change.now row.0 c.args.planned.now.row c.args.planned.now.blocks.items at c.image_len.ensures.rises c.image_len.ensures.kept c.requires.kind row.1 (c.requires.plan row.0 row.1)
+    refused_is (g.G.Ground.state c.args.ground.now) (known_of c.args.parts.now) v c.args.change.now row.0 c.args.planned.now.row c.args.planned.now.blocks.items at c.image_len.ensures.rises c.image_len.ensures.kept c.requires.kind row.1 (c.requires.plan row.0 row.1)
     (length (spell_image (image_of c.args.parts.now.contents))) (image_len_is (known_of c.args.parts.now)) c.lacks_table.result (c.lacks_table.ensures row.0 row.1) c.requires.place
     ∙ ap (λ (t : Bool). cond t (Some code.TableFull) (cond (passes c.args.parts.now.limit (how_many is_now c.args.parts.now.held) (length c.args.planned.now.blocks.items)) (Some code.Full) None)) c.if-lacks_table.false
     ∙ ap (λ (t : Bool). cond t (Some code.Full) None) (sym (c.is_full.ensures ∙ ap (passes c.args.parts.now.limit (how_many is_now c.args.parts.now.held)) (omega (arith, c.len.ensures, c.args.planned.now.blocks.ok))) ∙ c.if-is_full.true)
@@ -30,7 +30,7 @@ returns-then-is_full-clause-why g c = λ v at.
 pub returns-clause-why : goal.returns-clause-why
 returns-clause-why g c = λ v at.
     let row = some_row (row_of c.args.parts.now.contents.rows.rows (item_of_change c.args.change.now)) c.requires.there in
-    refused_is (g.D.Disk.state c.args.disk.now) (known_of c.args.parts.now) v c.args.change.now row.0 c.args.planned.now.row c.args.planned.now.blocks.items at c.image_len.ensures.rises c.image_len.ensures.kept c.requires.kind row.1 (c.requires.plan row.0 row.1)
+    refused_is (g.G.Ground.state c.args.ground.now) (known_of c.args.parts.now) v c.args.change.now row.0 c.args.planned.now.row c.args.planned.now.blocks.items at c.image_len.ensures.rises c.image_len.ensures.kept c.requires.kind row.1 (c.requires.plan row.0 row.1)
     (length (spell_image (image_of c.args.parts.now.contents))) (image_len_is (known_of c.args.parts.now)) c.lacks_table.result (c.lacks_table.ensures row.0 row.1) c.requires.place
     ∙ ap (λ (t : Bool). cond t (Some code.TableFull) (cond (passes c.args.parts.now.limit (how_many is_now c.args.parts.now.held) (length c.args.planned.now.blocks.items)) (Some code.Full) None)) c.if-lacks_table.false
     ∙ ap (λ (t : Bool). cond t (Some code.Full) None) (sym (c.is_full.ensures ∙ ap (passes c.args.parts.now.limit (how_many is_now c.args.parts.now.held)) (omega (arith, c.len.ensures, c.args.planned.now.blocks.ok))) ∙ c.if-is_full.false)
@@ -38,5 +38,5 @@ returns-clause-why g c = λ v at.
 pub returns-clause-fits : goal.returns-clause-fits
 returns-clause-fits g c = λ v at.
     let row = some_row (row_of c.args.parts.now.contents.rows.rows (item_of_change c.args.change.now)) c.requires.there in
-    refused_fits (g.D.Disk.state c.args.disk.now) (known_of c.args.parts.now) v c.args.change.now row.0 c.args.planned.now.row c.args.planned.now.blocks.items at c.image_len.ensures.rises c.image_len.ensures.kept c.requires.kind row.1 (c.requires.plan row.0 row.1)
+    refused_fits (g.G.Ground.state c.args.ground.now) (known_of c.args.parts.now) v c.args.change.now row.0 c.args.planned.now.row c.args.planned.now.blocks.items at c.image_len.ensures.rises c.image_len.ensures.kept c.requires.kind row.1 (c.requires.plan row.0 row.1)
     (length (spell_image (image_of c.args.parts.now.contents))) (image_len_is (known_of c.args.parts.now)) c.lacks_table.result (c.lacks_table.ensures row.0 row.1) c.if-lacks_table.false

@@ -1,5 +1,5 @@
 use Rattle.cf_volume_commit.proofs.NewVolume.{first_is, first_room, root_row}
-use Rattle.cf_volume_commit.proofs.creations.nothing.Goals as goal
+use Rattle.cf_volume_commit.proofs.creations.first_contents.Goals as goal
 
 pub returns-clause-image : goal.returns-clause-image
 returns-clause-image c = first_is c.in_ok-rows.rows c.new-records.result c.has_an_image.ensures.kept c.in_ok-rows.ensures.means c.in_ok-rows.ensures.fresh c.in_ok-rows.ensures.next c.new-records.ensures

@@ -4,15 +4,15 @@ use Rattle.cf_volume.proofs.Rebooks.{touched_at, touched_steady}
 use Rattle.cf_volume.proofs.Views.{seen_at}
 use Rattle.cf_volume.specs.Steady.{known_of}
 use Rattle.cf_volume.proofs.WrittenBytes.{seen_notes, sets_notes}
-use Rattle.cf_volume.proofs.volumes.Volume.touch.Goals as goal
+use Rattle.cf_volume.proofs.volumes.VolumeOn.touch.Goals as goal
 
 pub invariant_of-self : goal.invariant_of-self
 invariant_of-self g c = λ usable.
-    touched_steady (size_of (g.D.Disk.state c.self.inside.disk)) c.args.id (known_of c.self.inside.parts) (known_of c.touch_row.new.parts) (c.self.invariant c.if-self.false) c.in-Ok.ensures
+    touched_steady (size_of (g.G.Ground.state c.self.inside.ground)) c.args.id (known_of c.self.inside.parts) (known_of c.touch_row.new.parts) (c.self.invariant c.if-self.false) c.in-Ok.ensures
 
 pub returns-in-Ok-clause-ok : goal.returns-in-Ok-clause-ok
 returns-in-Ok-clause-ok g c = λ v at.
-    touched_at (g.D.Disk.state c.self.inside.disk) c.args.id (known_of c.self.inside.parts) (known_of c.touch_row.new.parts) v (seen_at g.D.Disk.state v (sym c.self.view_is) at) c.in-Ok.ensures
+    touched_at (g.G.Ground.state c.self.inside.ground) c.args.id (known_of c.self.inside.parts) (known_of c.touch_row.new.parts) v (seen_at g.G.Ground.state v (sym c.self.view_is) at) c.in-Ok.ensures
 
 pub returns-in-Ok-clause-noted : goal.returns-in-Ok-clause-noted
 returns-in-Ok-clause-noted g c = seen_notes c.args.id (known_of c.touch_row.new.parts) c.self.view_is (sets_notes _ c.args.id (known_of c.self.inside.parts) (known_of c.touch_row.new.parts) c.in-Ok.ensures)
