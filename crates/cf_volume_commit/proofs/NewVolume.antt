@@ -16,7 +16,7 @@ use Rattle.cf_clusters.specs.Roles.{Opens, committed}
 use Rattle.cf_clusters.specs.declared.uses.Use.{Use}
 use Rattle.cf_codec.specs.declared.formats.Format.{Format}
 use Rattle.cf_codec.specs.declared.formats.Format.TheVariants.{Second}
-use Rattle.cf_disk.specs.Disk.{Counts, Only, State, capped, size_of}
+use Rattle.cf_disk.specs.Disk.{Counts, Only, State, capped, may_fail, size_of}
 use Rattle.cf_volume_image.specs.Contents.{image_of, payload_of}
 use Rattle.cf_volume_image.specs.Sound.{IsSound}
 use Rattle.cf_volume_image.specs.Spelled.{AreRecordsFrom, IsImage}
@@ -36,9 +36,12 @@ use Rattle.cf_volume_points.proofs.NewKept.{new_keepable}
 use Rattle.cf_volume_points.specs.At.{At}
 use Rattle.cf_volume_points.specs.Clusters.{IsGroundSize}
 use Rattle.cf_volume_points.specs.Holding.{Holds}
+use Rattle.cf_volume_points.specs.Runs.{IsStop}
 use Rattle.cf_volume_points.specs.Saving.{SavedIfLeft}
 use Rattle.cf_volume_points.specs.Sound.{Sound}
 use Rattle.cf_volume_points.specs.Standing.{cluster_on, clusters_on}
+use Rattle.cf_volume_points.specs.declared.stops.Stop.{Stop}
+use Rattle.cf_volume_points.specs.declared.stops.Stop.TheVariants.{Device, OutOfMemory}
 use Rattle.cf_table.proofs.RowOfItem.{row_is_of_item}
 use Rattle.cf_table.specs.Means.{IsFresh}
 use Rattle.cf_table.specs.Reading.{IsRow}
@@ -186,6 +189,11 @@ counts_both r s m t n k a b first least most second after limit = record {
     ok : {T E P : Type 0} (r : Result T E) → P → OnOk r P
     ok (Ok x) h = h
     ok (Err e) h = tt
+
+-- a stop behind calls that raised no count of faults
+pub stop_behind : (e : Stop) (s m t : State) → s.faults ≤ m.faults → may_fail m.armed ≤ may_fail s.armed → IsStop e m t → IsStop e s t
+stop_behind Device s m t more calm failed = (omega (arith, more, failed.0), omega (arith, calm, failed.1))
+stop_behind OutOfMemory s m t more calm failed = tt
 
 module _ (s : State) (p : Parts) (n : ℕ) (fit : IsGroundSize (size_of s)) (number : n ≡ clusters_on s.seen) (is : image_of p.contents ≡ first_image 1) (room : All HasRoom p.contents.rows.rows) (opens : Opens n [] p.held)
     (m : ℕ) (limit : p.limit ≡ m) (within : m ≤ n) (rises : RisesFrom 0 p.contents.rows.rows) (kept : AreTableRows p.contents.rows.rows) where

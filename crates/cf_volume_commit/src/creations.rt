@@ -1,10 +1,12 @@
 //! A new volume.
 
-ghost use Rattle.std.specs.Prelude.{◌≡◌, ◌≤◌, ◌+◌, length, All, IfErr, IfOk, OnOk, false, true};
+ghost use Rattle.std.specs.Prelude.{◌≡◌, ◌≤◌, ◌+◌, [], length, All, IfErr, IfOk, OnOk, false, true};
 ghost use Rattle.cf_base.specs.declared.ids.Usn.{Usn};
 ghost use Rattle.cf_base.specs.declared.limits.TheConstants.{MOST_IMAGE_BYTES};
 ghost use Rattle.cf_volume_commit.specs.Loaded.{first_image, known_of};
+ghost use Rattle.cf_clusters.specs.Roles.{Opens};
 ghost use Rattle.cf_disk.specs.Disk.{size_of, may_fail, Counts};
+ghost use Rattle.cf_model.specs.Formats.{spell_image};
 ghost use Rattle.cf_volume_image.specs.Contents.{image_of};
 ghost use Rattle.cf_journal.specs.Content.{clusters, rewritten};
 ghost use Rattle.cf_journal.specs.Settled.{IsFitSize, Settled};
@@ -21,7 +23,7 @@ use crate::findings::{clusters_of_disk, limit_of};
 use crate::openings::raise;
 use crate::parts::Parts;
 use crate::ranges::has_an_image;
-use cf_base::{OutOfMemory, Usn};
+use cf_base::{Blob, OutOfMemory, Usn};
 use cf_clusters::Data;
 use cf_disk::Disk;
 use cf_journal::Journal;
@@ -47,6 +49,45 @@ pub fn first_contents(alloc: Global) -> Result<Contents, OutOfMemory>
     };
     has_an_image(&contents);
     Ok(contents)
+}
+
+// A new volume that no disk holds yet, with its image.
+#[derive(Drop)]
+struct Unwritten {
+    contents: Contents,
+    held: Data,
+    image: Blob,
+}
+
+fn first_parts(alloc: Global, clusters: u32) -> Result<Unwritten, OutOfMemory>
+    ensures image { IfOk result (λ u. image_of u.contents ≡ first_image 0) }
+    ensures room { IfOk result (λ u. All HasRoom u.contents.rows.rows) }
+    ensures later { IfOk result (λ u. (n : Usn) → above n no_usn ≡ true → IsNext n u.contents.rows.rows) }
+    ensures held { IfOk result (λ u. Opens clusters [] u.held) }
+    ensures spelled { IfOk result (λ u. u.image ≡ spell_image (image_of u.contents)) }
+{
+    let held = Data::new(alloc, clusters, &[])?;
+    let contents = match first_contents(alloc) {
+        Ok(contents) => contents,
+        Err(memory) => {
+            drop(held);
+            return Err(memory);
+        }
+    };
+    match spell_image(alloc, &contents) {
+        Ok(image) => {
+            Ok(Unwritten {
+                contents,
+                held,
+                image,
+            })
+        }
+        Err(memory) => {
+            drop(contents);
+            drop(held);
+            Err(memory)
+        }
+    }
 }
 
 // Formats the disk with an image of these bytes.
@@ -87,17 +128,32 @@ pub fn create<D: Disk>(alloc: Global, disk: &mut D) -> Result<Parts, Stop>
 {
     let clusters = clusters_of_disk(disk);
     let limit = limit_of(disk, clusters);
-    let contents = first_contents(alloc)?;
-    let held = Data::new(alloc, clusters, &[])?;
-    let image = spell_image(alloc, &contents)?;
-    let journal = format(disk, image.as_slice())?;
+    let first = first_parts(alloc, clusters)?;
+    let journal = match format(disk, first.image.as_slice()) {
+        Ok(journal) => journal,
+        Err(stop) => {
+            drop(first);
+            return Err(stop);
+        }
+    };
+    let Unwritten {
+        mut contents,
+        held,
+        image,
+    } = first;
+    drop(image);
+    contents.last = Usn { epoch: 1, place: 0 };
     let mut parts = Parts {
         journal,
         held,
         contents,
         limit,
     };
-    parts.contents.last = Usn { epoch: 1, place: 0 };
-    raise(alloc, disk, &mut parts)?;
-    Ok(parts)
+    match raise(alloc, disk, &mut parts) {
+        Ok(()) => Ok(parts),
+        Err(stop) => {
+            drop(parts);
+            Err(stop)
+        }
+    }
 }

@@ -6,7 +6,7 @@ ghost use Rattle.cf_volume_commit.specs.declared.damages.FindError.TheVariants a
 use cf_base::OutOfMemory;
 
 /// Why the bytes of a disk are those of no volume: the first thing that is wrong. A place is that of a byte in the disk.
-#[derive(Clone, Copy, Debug, PartialEq, Eq)]
+#[derive(Clone, Copy)]
 pub enum Damage {
     /// No slot has an open gate and a spelled header.
     NoSlot,
@@ -20,7 +20,7 @@ pub enum Damage {
 }
 
 /// Why no volume is found on a disk.
-#[derive(Clone, Copy, Debug, PartialEq, Eq)]
+#[derive(Clone, Copy)]
 pub enum FindError {
     /// The disk holds none.
     Damaged(Damage),

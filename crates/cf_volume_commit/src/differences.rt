@@ -1,6 +1,6 @@
 //! What differs from the last point.
 
-ghost use Rattle.std.specs.Prelude.{◌≡◌, ◌≤◌, None, IfOk, OnOk, filter, is_some, length, map, nat_lt, ◌&&◌};
+ghost use Rattle.std.specs.Prelude.{◌≡◌, ◌≤◌, [], None, IfOk, OnOk, filter, is_some, length, map, nat_lt, ◌&&◌};
 ghost use Rattle.std.specs.List.{list_any};
 ghost use Rattle.cf_volume_commit.specs.Differing.{AddsKeys, changed_keys, changed_rows, is_new, is_record_gone, is_row_gone, is_row_left, keys_in, removed_keys, removed_rows, rows_left};
 ghost use Rattle.cf_volume_image.specs.Contents.{record_at};
@@ -151,15 +151,30 @@ fn keys_of(alloc: Global, records: &[AuxRecord]) -> Result<Vec<Blob>, OutOfMemor
     Ok(keys)
 }
 
+// The same by records without a value, of which there are none yet.
+fn listed_keys(
+    alloc: Global,
+    keys: &mut AuxRecords,
+    then: &Earlier,
+    now: &AuxRecords,
+) -> Result<Vec<Blob>, OutOfMemory>
+    requires { keys.old ≡ [] }
+    ensures { IfOk result (λ v. v.items ≡ changed_keys then.now now.now) }
+{
+    let _ = now.as_slice();
+    put_keys(alloc, keys, now, then.made.as_slice())?;
+    put_keys(alloc, keys, now, then.records.as_slice())?;
+    keys_of(alloc, keys.as_slice())
+}
+
 // The keys of those noted that are still there, and of new ones. No other record is looked at.
 fn changed_keys(alloc: Global, then: &Earlier, now: &AuxRecords) -> Result<Vec<Blob>, OutOfMemory>
     ensures { IfOk result (λ v. v.items ≡ changed_keys then.now now.now) }
 {
-    let _ = now.as_slice();
     let mut keys = AuxRecords::new(alloc);
-    put_keys(alloc, &mut keys, now, then.made.as_slice())?;
-    put_keys(alloc, &mut keys, now, then.records.as_slice())?;
-    Ok(keys_of(alloc, keys.as_slice())?)
+    let listed = listed_keys(alloc, &mut keys, then, now);
+    drop(keys);
+    listed
 }
 
 fn keys_gone(

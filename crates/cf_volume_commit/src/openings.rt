@@ -110,7 +110,9 @@ pub(crate) fn raise<D: Disk>(alloc: Global, disk: &mut D, parts: &mut Parts) -> 
     has_an_image(&parts.contents);
     let payload = spell_payload(alloc, &parts.contents, &[], &[], &[], &[])?;
     let text = Some(payload);
-    put_text(alloc, disk, &mut parts.journal, &parts.contents, &text)?;
+    let put = put_text(alloc, disk, &mut parts.journal, &parts.contents, &text);
+    drop(text);
+    put?;
     parts.held.committed();
     Ok(())
 }
@@ -148,8 +150,20 @@ fn parts_of(
     ensures last { result ≡ Err (fail.No code.Exhausted) → contents.last.epoch ≡ most }
     ensures only { IfErr result (λ e. (e ≡ fail.No code.Exhausted) ⊎ (e ≡ fail.OutOfMemory)) }
 {
-    let last = number_after(contents.last.epoch)?;
-    let held = data_of(alloc, &contents, clusters)?;
+    let last = match number_after(contents.last.epoch) {
+        Ok(last) => last,
+        Err(error) => {
+            drop(contents);
+            return Err(error);
+        }
+    };
+    let held = match data_of(alloc, &contents, clusters) {
+        Ok(held) => held,
+        Err(memory) => {
+            drop(contents);
+            return Err(CallError::from(memory));
+        }
+    };
     contents.last = last;
     Ok(Parts {
         journal,
@@ -216,7 +230,13 @@ pub fn load<D: Disk>(alloc: Global, disk: &mut D) -> Result<Parts, CallError>
     let mut parts = find(alloc, disk)?;
     match raise(alloc, disk, &mut parts) {
         Ok(()) => Ok(parts),
-        Err(Stop::Device) => Err(CallError::No(Code::Device)),
-        Err(Stop::OutOfMemory) => Err(CallError::OutOfMemory),
+        Err(Stop::Device) => {
+            drop(parts);
+            Err(CallError::No(Code::Device))
+        }
+        Err(Stop::OutOfMemory) => {
+            drop(parts);
+            Err(CallError::OutOfMemory)
+        }
     }
 }

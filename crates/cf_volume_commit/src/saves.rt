@@ -39,6 +39,7 @@ fn payload_text(
 {
     let lists = what_differs(alloc, then, contents)?;
     if !lists.are_short() {
+        drop(lists);
         return Ok(None);
     }
     let text = spell_payload(
@@ -48,8 +49,9 @@ fn payload_text(
         &lists.changed,
         &lists.removed_keys,
         &lists.changed_keys,
-    )?;
-    Ok(Some(text))
+    );
+    drop(lists);
+    Ok(Some(text?))
 }
 
 /// Makes what a volume says of its items durable, together with the bytes that its clusters hold, and commits the
@@ -92,7 +94,9 @@ pub fn save<D: Disk>(
     has_an_image(contents);
     stands_in_order(then);
     let text = payload_text(alloc, contents, then)?;
-    put_text(alloc, disk, journal, contents, &text)?;
+    let put = put_text(alloc, disk, journal, contents, &text);
+    drop(text);
+    put?;
     held.committed();
     Ok(())
 }

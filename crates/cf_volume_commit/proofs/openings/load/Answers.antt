@@ -47,8 +47,8 @@ returns-in-Err-Device-clause-crash g c = λ e log b st.
     opening_leaves (g.D.Disk.state c.args.disk.now) (g.D.Disk.state c.find.new.disk) f.0 c.in_ok-parts.parts f.1 c.requires c.raise.ensures.rise c.raise.ensures.kept e log b st (g.D.Disk.state c.raise.new.disk) c.find.ensures.reads.leaves
     (c.raise.ensures.crash f.0 f.1.image (found_stands (g.D.Disk.state c.args.disk.now) (g.D.Disk.state c.find.new.disk) f.0 c.in_ok-parts.parts f.1 c.requires))
 
-pub returns-clause-crash : goal.returns-clause-crash
-returns-clause-crash g c = λ e log b st.
+pub returns-in-Err-OutOfMemory-clause-crash : goal.returns-in-Err-OutOfMemory-clause-crash
+returns-in-Err-OutOfMemory-clause-crash g c = λ e log b st.
     let f = c.in_ok-parts.ensures.found in
     opening_leaves (g.D.Disk.state c.args.disk.now) (g.D.Disk.state c.find.new.disk) f.0 c.in_ok-parts.parts f.1 c.requires c.raise.ensures.rise c.raise.ensures.kept e log b st (g.D.Disk.state c.raise.new.disk) c.find.ensures.reads.leaves
     (c.raise.ensures.crash f.0 f.1.image (found_stands (g.D.Disk.state c.args.disk.now) (g.D.Disk.state c.find.new.disk) f.0 c.in_ok-parts.parts f.1 c.requires))
@@ -102,8 +102,8 @@ returns-in-Err-Device-clause-at_most g c =
     opening_most (g.D.Disk.state c.args.disk.now) (g.D.Disk.state c.find.new.disk) (g.D.Disk.state c.raise.new.disk) c.in_ok-parts.parts.journal c.in_ok-parts.parts.contents
     (found_can (g.D.Disk.state c.args.disk.now) (g.D.Disk.state c.find.new.disk) f.0 c.in_ok-parts.parts f.1 c.requires) c.find.ensures.reads.written c.raise.ensures.counts.most
 
-pub returns-clause-at_most : goal.returns-clause-at_most
-returns-clause-at_most g c =
+pub returns-in-Err-OutOfMemory-clause-at_most : goal.returns-in-Err-OutOfMemory-clause-at_most
+returns-in-Err-OutOfMemory-clause-at_most g c =
     let f = c.in_ok-parts.ensures.found in
     opening_most (g.D.Disk.state c.args.disk.now) (g.D.Disk.state c.find.new.disk) (g.D.Disk.state c.raise.new.disk) c.in_ok-parts.parts.journal c.in_ok-parts.parts.contents
     (found_can (g.D.Disk.state c.args.disk.now) (g.D.Disk.state c.find.new.disk) f.0 c.in_ok-parts.parts f.1 c.requires) c.find.ensures.reads.written c.raise.ensures.counts.most
