@@ -11,6 +11,7 @@ use Rattle.cf_base.specs.declared.answers.Shown.TheVariants as shown
 use Rattle.cf_base.specs.declared.codes.Code.{Code}
 use Rattle.cf_base.specs.declared.codes.Code.TheVariants as code
 use Rattle.cf_base.specs.declared.ids.Key.{Key}
+use Rattle.cf_base.specs.declared.items.SeenPath.{SeenPath}
 use Rattle.cf_base.specs.declared.memory.OutOfMemory.{OutOfMemory as NoMemory}
 use Rattle.cf_base.specs.declared.notices.Notice.TheVariants as notice
 use Rattle.cf_base.specs.declared.operations.Operation.{Operation}
@@ -30,6 +31,10 @@ no : {A : Type 0} → false ≡ true → A
 no e = let bad : ⊥ = cc in absurd bad
 
 module _ {X : Type 0} (goes : X → List Act → X → Type 0) where
+  -- an operation that was not tried
+  pub untried : (A : Type 0) (seen : List SeenPath) (op : Operation) (old new : X) (t : Result Tried NoMemory) (e m : NoMemory) (Is : List Act → Type 0) → Tries goes seen op old t new → t ≡ Err e → Performs {A = A} goes Is old (Err m) new
+  untried A seen op old new t e m Is h is = ([], subst (λ (x : Result Tried NoMemory). Tries goes seen op old x new) is h, λ ok. no ok)
+
   module _ (on : (p q r : X) (acts more : List Act) → goes p acts q → goes q more r → goes p (acts ++ more) r) where
     pub then_performs : {A B : Type 0} (First Next Both : List Act → Type 0) (old mid new : X) (a : A) (r : Result B NoMemory)
         → ((acts more : List Act) → First acts → Next more → Both (acts ++ more)) → Performs goes First old (Ok a) mid → Performs goes Next mid r new → Performs goes Both old r new

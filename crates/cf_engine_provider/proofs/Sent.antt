@@ -1,9 +1,7 @@
 -- A request with its lines on a port.
-use Rattle.std.proofs.Common.{◌≡◌, Bool, true, List, [], ◌∷◌, ◌++◌, refl, sym, ◌∙◌, ap, subst, append_assoc}
-use Rattle.std.specs.Prelude.{Result, Ok, Err, is_ok, Option, Some, None}
-use Rattle.std.specs.Result.{IsErrAnd}
-use Rattle.std.proofs.lemmas.Result.{err_from_is_err_and}
-use Rattle.cf_engine_provider.specs.Agencies.{Agency, Performs, Plays}
+use Rattle.std.proofs.Common.{◌≡◌, List, [], ◌++◌, refl, sym, ◌∙◌, subst, append_assoc}
+use Rattle.std.specs.Prelude.{Result, Ok, Option, Some, None}
+use Rattle.cf_engine_provider.specs.Agencies.{Agency, Performs}
 use Rattle.cf_engine_provider.specs.Answering.{Answers, Suits}
 use Rattle.cf_engine_provider.specs.Parts.{Carries, Exchanges, Speaks, noted}
 use Rattle.cf_engine_provider.specs.declared.exchanges.Exchange.{Exchange}
@@ -22,9 +20,6 @@ both_lines : (first second : Option Notice) (a b : List Act) → a ≡ noted fir
 both_lines first second a b e f more = append_assoc a b more ∙ (λ j. e j ++ (f j ++ more))
 
 module _ {X R : Type 0} (goes : X → List Act → X → Type 0) (told : R → Told) (q : Request) (p : Agency R) where
-  pub no_memory : (old new : X) (acts : List Act) (m : Agency R) (r : Result (Option Reply) NoMemory) (e : NoMemory) → goes old acts new → IsErrAnd r (λ y. y ≡ e) → Speaks told goes q p old r m new
-  no_memory old new acts m r e h is = let x = err_from_is_err_and r is in subst (λ (o : Result (Option Reply) NoMemory). Speaks told goes q p old o m new) (sym x.1) (acts, h)
-
   module _ (on : (p q r : X) (acts more : List Act) → goes p acts q → goes q more r → goes p (acts ++ more) r) where
     pub spoke : (e : Exchange) (k : Linked R) (m : Agency R) (old mid new : X) (u v : Unit {0}) → Exchanges told q p.link e k → m ≡ record p { link = k }
         → Performs goes (λ acts. acts ≡ noted e.first) old (Ok u) mid → Performs goes (λ acts. acts ≡ noted e.second) mid (Ok v) new → Speaks told goes q p old (Ok e.reply) m new

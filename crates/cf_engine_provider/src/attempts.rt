@@ -9,7 +9,7 @@ use cf_base::{CallError, Code, Operation, OutOfMemory, SeenPath};
 use cf_provider::Port;
 
 /// What an operation came to.
-#[derive(Clone, Copy, Debug, PartialEq, Eq)]
+#[derive(Clone, Copy)]
 pub(crate) enum Told {
     Done,
     Refused(Code),

@@ -42,7 +42,10 @@ pub(crate) fn speak<R: Remote>(
             reply: None,
         });
     }
-    let came = link.come(posted.number, request)?;
+    let Ok(came) = link.come(posted.number, request) else {
+        drop(posted);
+        return Err(OutOfMemory);
+    };
     Ok(Exchange {
         first: posted.line,
         second: came.line,

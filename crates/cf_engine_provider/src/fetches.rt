@@ -116,13 +116,20 @@ impl<R: Remote> Agent<R> {
         requires { IsFetch key request.now }
         ensures { Performs P.goes (λ acts. Plays R.told (IsLive key live) (take_reply request.now reply) self.old acts self.new) port.old result port.new }
     {
-        let fitting = fits(self.alloc, &NoItems, Rid(0), request, &reply)?;
+        let Ok(fitting) = fits(self.alloc, &NoItems, Rid(0), request, &reply) else {
+            drop(reply);
+            return Err(OutOfMemory);
+        };
         if !fitting {
+            drop(reply);
             return Ok(());
         }
         match live {
             Some(ask) => self.act_on_fetched(&ask, reply, port),
-            None => Ok(()),
+            None => {
+                drop(reply);
+                Ok(())
+            }
         }
     }
 }

@@ -85,10 +85,13 @@ impl<R: Remote> Agent<R> {
             list,
             good: true,
         };
-        match attempt(&entries, seen, port)? {
-            Told::Refused(code) => self.after_listing(key, code, port),
-            Told::Done => Ok(()),
-            Told::Device => Ok(()),
+        let told = attempt(&entries, seen, port);
+        drop(entries);
+        match told {
+            Ok(Told::Refused(code)) => self.after_listing(key, code, port),
+            Ok(Told::Done) => Ok(()),
+            Ok(Told::Device) => Ok(()),
+            Err(_) => Err(OutOfMemory),
         }
     }
 

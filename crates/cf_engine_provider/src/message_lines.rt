@@ -15,7 +15,10 @@ pub(crate) fn note_line<P: Port>(line: Option<Notice>, port: &mut P) -> Result<(
         Some(Notice::Message(sent)) => port.note(Notice::Message(sent)),
         Some(Notice::Fault { message }) => port.note(Notice::Fault { message }),
         // A link gives no other line.
-        Some(_) => Err(no_such_state()),
+        Some(_) => {
+            drop(line);
+            Err(no_such_state())
+        }
         None => Ok(()),
     }
 }

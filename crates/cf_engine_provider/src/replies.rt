@@ -85,10 +85,13 @@ impl<R: Remote> Agent<R> {
             len: bytes.as_slice().len() as u64,
         };
         let transfer = Operation::Transfer { key, at, bytes };
-        match attempt(&transfer, &[], port)? {
-            Told::Refused(code) => self.after_transfer(key, span, code, port),
-            Told::Done => Ok(()),
-            Told::Device => Ok(()),
+        let told = attempt(&transfer, &[], port);
+        drop(transfer);
+        match told {
+            Ok(Told::Refused(code)) => self.after_transfer(key, span, code, port),
+            Ok(Told::Done) => Ok(()),
+            Ok(Told::Device) => Ok(()),
+            Err(_) => Err(OutOfMemory),
         }
     }
 }

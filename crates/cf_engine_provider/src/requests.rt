@@ -29,8 +29,15 @@ impl<R: Remote> Agent<R> {
         ensures { Speaks R.told P.goes request.now self.old port.old result self.new port.new }
     {
         let exchange = speak(&mut self.link, request)?;
-        note_line(exchange.first, port)?;
-        note_line(exchange.second, port)?;
+        let Ok(()) = note_line(exchange.first, port) else {
+            drop(exchange.second);
+            drop(exchange.reply);
+            return Err(OutOfMemory);
+        };
+        let Ok(()) = note_line(exchange.second, port) else {
+            drop(exchange.reply);
+            return Err(OutOfMemory);
+        };
         Ok(exchange.reply)
     }
 
@@ -50,10 +57,21 @@ impl<R: Remote> Agent<R> {
             return Err(no_such_state());
         };
         let live = port.ask(call.ask.key);
-        let Some(reply) = self.send(&request, port)? else {
-            return Ok(());
-        };
-        self.take_fetched(call.ask.key, live, &request, reply, port)
+        match self.send(&request, port) {
+            Ok(Some(reply)) => {
+                let taken = self.take_fetched(call.ask.key, live, &request, reply, port);
+                drop(request);
+                taken
+            }
+            Ok(None) => {
+                drop(request);
+                Ok(())
+            }
+            Err(_) => {
+                drop(request);
+                Err(OutOfMemory)
+            }
+        }
     }
 
     /// Sends List for a list ask, and takes its reply.
@@ -67,11 +85,29 @@ impl<R: Remote> Agent<R> {
         let Some(request) = list_of(&call.ask, row) else {
             return Err(no_such_state());
         };
-        let found = find(self.alloc, call.ask.key, port)?;
-        let Some(reply) = self.send(&request, port)? else {
-            return Ok(());
+        let Ok(found) = find(self.alloc, call.ask.key, port) else {
+            drop(request);
+            return Err(OutOfMemory);
         };
-        self.take_listed(call.ask.key, &found, &request, &reply, port)
+        match self.send(&request, port) {
+            Ok(Some(reply)) => {
+                let taken = self.take_listed(call.ask.key, &found, &request, &reply, port);
+                drop(reply);
+                drop(found);
+                drop(request);
+                taken
+            }
+            Ok(None) => {
+                drop(found);
+                drop(request);
+                Ok(())
+            }
+            Err(_) => {
+                drop(found);
+                drop(request);
+                Err(OutOfMemory)
+            }
+        }
     }
 
     /// Consents to a dehydration.

@@ -24,4 +24,4 @@ returns g c =
     at_once g.R.Remote.told c.args.request.now c.args.link.now c.post.new.self c.in_ok-posted.posted
     (subst (λ (q : Request). Posts g.R.Remote.told (frame.Request q) c.args.link.now c.in_ok-posted.posted c.post.new.self) c.in_ok-copy.ensures c.in_ok-posted.ensures.posts)
     (subst (λ (q : Request). c.in_ok-posted.posted.line ≡ posted_line (frame.Request q) c.in_ok-posted.posted) c.in_ok-copy.ensures c.in_ok-posted.ensures.line) c.post.ensures.remote
-    c.come.new.self c.in_ok-came.came.reply c.in_ok-came.came.line c.if-not-posted.false (sym c.is_inline.ensures ∙ c.if-not-is_inline.false) c.in_ok-came.ensures.does c.in_ok-came.ensures.rises
+    c.come.new.self c.in-Ok.came.reply c.in-Ok.came.line c.if-not-posted.false (sym c.is_inline.ensures ∙ c.if-not-is_inline.false) c.in-Ok.ensures.does c.in-Ok.ensures.rises

@@ -19,21 +19,21 @@ returns-in_default g c = (
       gone g.R.Remote.told (g.P.Port.sight c.args.port.now) c.args.call.now ask_kind.List c.args.self.now (λ z. refl) c.requires (subst (λ (t : Table). row_of t.rows c.args.call.now.ask.item ≡ None) c.rows.ensures (sym c.in_default.ensures)),
 )
 
-pub returns-in_default-2 : goal.returns-in_default-2
-returns-in_default-2 g c =
-    ended g.P.Port.goes g.R.Remote.told c.in-Some-list_of.request c.args.self.now g.met.P.Port.goes_on (g.P.Port.sight c.args.port.now) c.args.call.now c.send.new.self c.args.port.now c.send.new.port c.in_ok-reply.field-0 (Ok (record {}))
-    c.in_ok-reply.ensures c.in_default-2.is
+pub returns-in-Ok-None : goal.returns-in-Ok-None
+returns-in-Ok-None g c =
+    ended g.P.Port.goes g.R.Remote.told c.in-Some-list_of.request c.args.self.now g.met.P.Port.goes_on (g.P.Port.sight c.args.port.now) c.args.call.now c.send.new.self c.args.port.now c.send.new.port c.in-Ok-None.field-0 (Ok (record {}))
+    c.in-Ok-None.ensures c.in-Ok-None.field-0-is
     (unanswered g.R.Remote.told (g.P.Port.sight c.args.port.now) c.args.call.now ask_kind.List (list_of c.args.call.now.ask) (λ i z. refl) c.in-Some.row.now c.list_of.result c.requires
     (subst (λ (t : Table). row_of t.rows c.args.call.now.ask.item ≡ Some c.in-Some.row.now) c.rows.ensures (sym c.in-Some.ensures)) c.list_of.ensures.is c.in-Some-list_of.request c.in-Some-list_of.is c.args.self.now c.send.new.self)
     g.met.P.Port.stays
 
-pub returns : goal.returns
-returns g c =
-    went_on g.P.Port.goes g.R.Remote.told c.in-Some-list_of.request c.args.self.now g.met.P.Port.goes_on (g.P.Port.sight c.args.port.now) c.args.call.now c.send.new.self c.take_listed.new.self c.args.port.now c.send.new.port c.take_listed.new.port
-    c.in_ok-reply.field-0 c.in-Some-2.reply (λ (acts : List Act). Plays g.R.Remote.told (Knows c.args.call.now.ask.key c.in_ok-found.found) (take_reply c.in-Some-list_of.request c.in-Some-2.reply) c.send.new.self acts c.take_listed.new.self) c.take_listed.result
-    c.in_ok-reply.ensures c.in-Some-2.is
+pub returns-in-Ok-Some : goal.returns-in-Ok-Some
+returns-in-Ok-Some g c =
+    went_on g.P.Port.goes g.R.Remote.told c.in-Some-list_of.request c.args.self.now g.met.P.Port.goes_on (g.P.Port.sight c.args.port.now) c.args.call.now c.send.new.self c.take_listed-taken.new.self c.args.port.now c.send.new.port c.take_listed-taken.new.port
+    c.in-Ok-Some.field-0 c.in-Ok-Some.reply (λ (acts : List Act). Plays g.R.Remote.told (Knows c.args.call.now.ask.key c.in-Ok.found) (take_reply c.in-Some-list_of.request c.in-Ok-Some.reply) c.send.new.self acts c.take_listed-taken.new.self) c.take_listed-taken.result
+    c.in-Ok-Some.ensures c.in-Ok-Some.field-0-is
     (λ acts more carries next.
     answered g.R.Remote.told (g.P.Port.sight c.args.port.now) c.args.call.now ask_kind.List (list_of c.args.call.now.ask) (λ i z. refl) c.in-Some.row.now c.list_of.result c.requires
     (subst (λ (t : Table). row_of t.rows c.args.call.now.ask.item ≡ Some c.in-Some.row.now) c.rows.ensures (sym c.in-Some.ensures)) c.list_of.ensures.is c.in-Some-list_of.request c.in-Some-list_of.is
-    (Knows c.args.call.now.ask.key c.in_ok-found.found) c.args.self.now c.send.new.self c.take_listed.new.self acts more c.in-Some-2.reply (λ f h. c.in_ok-found.ensures f h.shows h.book) carries next)
-    c.take_listed.ensures
+    (Knows c.args.call.now.ask.key c.in-Ok.found) c.args.self.now c.send.new.self c.take_listed-taken.new.self acts more c.in-Ok-Some.reply (λ f h. c.in-Ok.ensures f h.shows h.book) carries next)
+    c.take_listed-taken.ensures
