@@ -1,13 +1,15 @@
 -- A call that may call its provider, from its parts.
-use Rattle.std.proofs.Common.{◌≡◌, true, false, List, sym, ◌∙◌, ap, subst}
+use Rattle.std.proofs.Common.{◌≡◌, true, false, List, [], refl, sym, ◌∙◌, ap, subst}
 use Rattle.std.specs.Prelude.{Result, Ok, Err}
 use Rattle.std.specs.Result.{IsErrAnd}
 use Rattle.std.proofs.lemmas.Result.{err_from_is_err_and}
+use Rattle.cf_base.specs.declared.answers.AuxRecord.{AuxRecord}
 use Rattle.cf_base.specs.declared.answers.Shown.{Shown}
 use Rattle.cf_base.specs.declared.codes.Code.TheVariants as code
 use Rattle.cf_base.specs.declared.codes.CallError.{CallError}
 use Rattle.cf_base.specs.declared.codes.CallError.TheVariants.{No, OutOfMemory}
 use Rattle.cf_base.specs.declared.notices.Notice.{Notice}
+use Rattle.cf_base.specs.declared.operations.Operation.{Operation}
 use Rattle.cf_disk.specs.Disk.{State}
 use Rattle.cf_filter.proofs.Called.{is_broken, noted_back, still_noted, whole_again}
 use Rattle.cf_filter.specs.Calling.{Takes, Told, answer_of, broken_by, is_stopped, noted, shown_by}
@@ -17,9 +19,13 @@ use Rattle.cf_filter_machine.specs.Held.{Held}
 use Rattle.cf_filter.specs.PortLaws.{false_true}
 use Rattle.cf_filter_machine.specs.Sensing.{sense}
 use Rattle.cf_model.specs.Arrows.{Arrow}
+use Rattle.cf_filter_calls.specs.Operating.{Keeps}
+use Rattle.cf_model.specs.Books.{Book}
 use Rattle.cf_model.specs.Callbacks.{begin_call}
+use Rattle.cf_model.specs.Changes.{same_book}
+use Rattle.cf_model.specs.Operations.{execute, execute_with}
 use Rattle.cf_model.specs.State.{Filter}
-use Rattle.cf_filter_steps.specs.Answering.{Answers}
+use Rattle.cf_filter_steps.specs.Answering.{Answers, Any}
 
 module _ {D P : Type 0} (state : D → State) (answers : Answering P) (H : Filter → Type 0) (part : Arrow Filter Shown) where
   -- a call that counts as one for which memory ran out
@@ -69,4 +75,16 @@ module _ {D P : Type 0} (state : D → State) (answers : Answering P) (H : Filte
       let o = err_from_is_err_and r err in record {
         broken = λ h. (o.1 ∙ ap (λ (y : CallError). Err y) (o.2 ∙ is), ap (λ (l : List Notice). noted l new) notes ∙ ap (λ (y : Held D). noted before y) same, still);
         does = λ whole. false_true (sym whole ∙ still_noted state before true old broken);
+      }
+
+-- an operation without records
+module _ {D P A : Type 0} (state : D → State) (answers : Answering P) where
+  pub provided_plainly : (show : A → Shown) (p q : P) (old new : Held D) (op : Operation) (records : List AuxRecord) (r : Result A CallError) → records ≡ []
+      → ((f : Book → Book) → Provides state answers (Keeps f records) show (execute_with f op) p old r q new) → Provides state answers Any show (execute op) p old r q new
+  provided_plainly show p q old new op records r e a =
+      let b = subst (λ (l : List AuxRecord). (f : Book → Book) → Provides state answers (Keeps f l) show (execute_with f op) p old r q new) e a same_book in record {
+        broken = b.broken;
+        does = λ whole.
+            let d = b.does whole in
+            (d.0, d.1, record { leads = λ s i h. d.2.leads s i (record { told = refl; anchors = refl; clock = refl; accesses = refl; fits = λ k. k; graves = λ n from k. k }) }, d.3);
       }

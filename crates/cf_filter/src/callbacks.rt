@@ -123,7 +123,12 @@ impl<D: Disk> Filter<D> {
         ensures { (part : Arrow model Shown) (x : Held D) (s : model) → PartTo D.state part x s told self.old → CallsTo D.state P.answers part p.old x s result p.new self.new }
     {
         let shown = told?;
-        self.drain(p)?;
-        Ok(self.end_call(shown))
+        match self.drain(p) {
+            Ok(_) => Ok(self.end_call(shown)),
+            Err(fail) => {
+                drop(shown);
+                Err(fail)
+            }
+        }
     }
 }

@@ -99,7 +99,9 @@ impl<D: Disk> Filter<D> {
     pub fn into_disk(self) -> D
         ensures { result ≡ self.disk }
     {
-        self.machine.volume.into_disk()
+        let Machine { volume, desk } = self.machine;
+        drop(desk);
+        volume.into_disk()
     }
 
     /// Hands the number to the disk's `arm`, and changes nothing else: it stands for what it stood for.

@@ -5,7 +5,7 @@ use crate::filters::Filter;
 use crate::shown_values::{done, outcome};
 use cf_base::{AuxRecord, CallError, Notes, Operation, WaitId};
 use cf_disk::Disk;
-use cf_filter_calls::{cancel, execute, execute_with, tick};
+use cf_filter_calls::{cancel, execute_with, tick};
 use cf_provider::{Outcome, Provider};
 
 impl<D: Disk> Filter<D> {
@@ -79,9 +79,6 @@ impl<D: Disk> Filter<D> {
         ensures does { Provides D.state P.answers Any shown_of (execute op.now) p.old (noted notes.old self.old) result p.new (noted notes.new self.new) }
         ensures keeps { self.new.desk.notes ≡ self.old.desk.notes }
     {
-        self.begin(notes)?;
-        let first = execute(&mut self.machine, op);
-        let told = self.drained(first, p);
-        self.finish_with(outcome(told), notes)
+        self.execute_with(op, &[], p, notes)
     }
 }

@@ -28,87 +28,120 @@ pub(crate) fn answer<A>(told: Told<A>) -> Result<A, CallError>
 pub(crate) fn done(told: Result<Shown, CallError>) -> Told<()>
     ensures { Takes shows_done told result }
 {
-    match told? {
+    let shown = told?;
+    match shown {
         Shown::Done => Ok(Ok(())),
         Shown::Refused(code) => Ok(Err(code)),
-        _ => Err(CallError::OutOfMemory),
+        other => {
+            drop(other);
+            Err(CallError::OutOfMemory)
+        }
     }
 }
 
 pub(crate) fn handle(told: Result<Shown, CallError>) -> Told<Handle>
     ensures { Takes shown.Opened told result }
 {
-    match told? {
+    let shown = told?;
+    match shown {
         Shown::Opened(handle) => Ok(Ok(handle)),
         Shown::Refused(code) => Ok(Err(code)),
-        _ => Err(CallError::OutOfMemory),
+        other => {
+            drop(other);
+            Err(CallError::OutOfMemory)
+        }
     }
 }
 
 pub(crate) fn count(told: Result<Shown, CallError>) -> Told<u64>
     ensures { Takes shown.Count told result }
 {
-    match told? {
+    let shown = told?;
+    match shown {
         Shown::Count(count) => Ok(Ok(count)),
         Shown::Refused(code) => Ok(Err(code)),
-        _ => Err(CallError::OutOfMemory),
+        other => {
+            drop(other);
+            Err(CallError::OutOfMemory)
+        }
     }
 }
 
 pub(crate) fn item(told: Result<Shown, CallError>) -> Told<ItemId>
     ensures { Takes shown.Item told result }
 {
-    match told? {
+    let shown = told?;
+    match shown {
         Shown::Item(item) => Ok(Ok(item)),
         Shown::Refused(code) => Ok(Err(code)),
-        _ => Err(CallError::OutOfMemory),
+        other => {
+            drop(other);
+            Err(CallError::OutOfMemory)
+        }
     }
 }
 
 pub(crate) fn number(told: Result<Shown, CallError>) -> Told<Usn>
     ensures { Takes shown.Number told result }
 {
-    match told? {
+    let shown = told?;
+    match shown {
         Shown::Number(number) => Ok(Ok(number)),
         Shown::Refused(code) => Ok(Err(code)),
-        _ => Err(CallError::OutOfMemory),
+        other => {
+            drop(other);
+            Err(CallError::OutOfMemory)
+        }
     }
 }
 
 pub(crate) fn clock(told: Result<Shown, CallError>) -> Told<u64>
     ensures { Takes shown.Used told result }
 {
-    match told? {
+    let shown = told?;
+    match shown {
         Shown::Used(clock) => Ok(Ok(clock)),
         Shown::Refused(code) => Ok(Err(code)),
-        _ => Err(CallError::OutOfMemory),
+        other => {
+            drop(other);
+            Err(CallError::OutOfMemory)
+        }
     }
 }
 
 pub(crate) fn runs(told: Result<Shown, CallError>) -> Told<Sequence<Span>>
     ensures { Takes shown.Ranges told result }
 {
-    match told? {
+    let shown = told?;
+    match shown {
         Shown::Ranges(runs) => Ok(Ok(runs)),
         Shown::Refused(code) => Ok(Err(code)),
-        _ => Err(CallError::OutOfMemory),
+        other => {
+            drop(other);
+            Err(CallError::OutOfMemory)
+        }
     }
 }
 
 pub(crate) fn blocks(told: Result<Shown, CallError>) -> Told<(u32, u32)>
     ensures { Takes shows_blocks told result }
 {
-    match told? {
+    let shown = told?;
+    match shown {
         Shown::Blocks { used, clusters } => Ok(Ok((used, clusters))),
         Shown::Refused(code) => Ok(Err(code)),
-        _ => Err(CallError::OutOfMemory),
+        other => {
+            drop(other);
+            Err(CallError::OutOfMemory)
+        }
     }
 }
 
 pub(crate) fn info(told: Result<Shown, CallError>) -> Told<Info>
     ensures { Takes shows_info told result }
 {
-    match told? {
+    let shown = told?;
+    match shown {
         Shown::Info {
             item,
             kind,
@@ -127,28 +160,39 @@ pub(crate) fn info(told: Result<Shown, CallError>) -> Told<Info>
             identity,
         })),
         Shown::Refused(code) => Ok(Err(code)),
-        _ => Err(CallError::OutOfMemory),
+        other => {
+            drop(other);
+            Err(CallError::OutOfMemory)
+        }
     }
 }
 
 pub(crate) fn waited(told: Result<Shown, CallError>) -> Told<Waited>
     ensures { Takes shows_waited told result }
 {
-    match told? {
+    let shown = told?;
+    match shown {
         Shown::Pending(wait) => Ok(Ok(Waited::Pending(wait))),
         Shown::Ended(end) => Ok(Ok(Waited::Ended(end))),
         Shown::Refused(code) => Ok(Err(code)),
-        _ => Err(CallError::OutOfMemory),
+        other => {
+            drop(other);
+            Err(CallError::OutOfMemory)
+        }
     }
 }
 
 pub(crate) fn outcome(told: Result<Shown, CallError>) -> Told<Outcome>
     ensures { Takes shown_of told result }
 {
-    match told? {
+    let shown = told?;
+    match shown {
         Shown::Done => Ok(Ok(Outcome::Done)),
         Shown::Retrieved(bytes) => Ok(Ok(Outcome::Data(bytes))),
         Shown::Refused(code) => Ok(Err(code)),
-        _ => Err(CallError::OutOfMemory),
+        other => {
+            drop(other);
+            Err(CallError::OutOfMemory)
+        }
     }
 }
