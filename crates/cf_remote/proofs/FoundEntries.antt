@@ -1,6 +1,8 @@
 -- What a reply to a List has under a name.
 use Rattle.std.proofs.Common.{◌≡◌, inl, inr, ℕ, Bool, true, false, cond, List, refl, sym, ap, ◌∙◌, subst}
 use Rattle.std.specs.Prelude.{Option, Result, Ok, Err}
+use Rattle.std.specs.Result.{IsErrAnd}
+use Rattle.std.proofs.lemmas.Result.{err_from_is_err_and}
 use Rattle.cf_base.specs.declared.ids.Key.{Key}
 use Rattle.cf_base.specs.declared.ids.Rid.{Rid}
 use Rattle.cf_base.specs.declared.messages.Entry.{Entry}
@@ -56,6 +58,10 @@ found_asked rid name r old new (Err (Stray s)) a h =
     (subst (λ (x : Reply). Answers (list_of rid) x old new) (sym same) a, subst (λ (x : Reply). Err (Stray s) ≡ found_in rid name x) (sym same) h)
 found_asked rid name r old new (Err Fault) a h = absurd h
 found_asked rid name r old new (Err OutOfMemory) a h = inr (r, a)
+
+-- at an exit by `?`
+pub with_find : {A : Type 0} (P : Result A FindError → Type 0) (r : Result A FindError) (e : FindError) → IsErrAnd r (λ y. y ≡ e) → P (Err e) → P r
+with_find P r e is h = let p = err_from_is_err_and r is in subst P (sym (p.1 ∙ ap (λ (y : FindError). Err y) p.2)) h
 
 pub asked_in_vain : (rid : Rid) (name : List ℕ) (old new : Told) (e : AskError) → Asks (list_of rid) old (Err e) new → FindsEntry rid name old (Err (find_error_of e)) new
 asked_in_vain rid name old new ask.Fault h = h

@@ -1,8 +1,6 @@
 -- What a peer event is answered.
 use Rattle.std.proofs.Common.{◌≡◌, inl, ℕ, ◌+◌, Bool, true, false, refl, sym, ap, ◌∙◌, subst, arith}
-use Rattle.std.specs.Prelude.{Option, Some, None, Result, Ok, Err, is_some, option_map}
-use Rattle.std.specs.Result.{IsErrAnd}
-use Rattle.std.proofs.lemmas.Result.{err_from_is_err_and}
+use Rattle.std.specs.Prelude.{IfOk, Option, Some, None, Result, Ok, Err, is_some, option_map}
 use Rattle.cf_base.specs.declared.answers.Answer.{Answer}
 use Rattle.cf_base.specs.declared.answers.Shown.{Shown}
 use Rattle.cf_base.specs.declared.answers.Shown.TheVariants as shown
@@ -132,16 +130,6 @@ module _ (q : Request) (next : ℕ) (old new : Told) where
   failed_does ask.OutOfMemory (Ok a) h k = absurd k
   failed_does ask.OutOfMemory (Err m) h k = (omega arith, omega arith, λ s st. inl h)
 
-  -- memory runs out after the reply
-  pub unseen_does : (r : Reply) (m : OutOfMemory) (result : Result Answer OutOfMemory) → Answers q r old new → IsErrAnd result (λ y. y ≡ m) → Does (send_request q) next old result (next + 1) new
-  unseen_does r m result h is = subst (λ (o : Result Answer OutOfMemory). Does (send_request q) next old o (next + 1) new) (sym (err_from_is_err_and result is).1) (
-    omega arith,
-    omega arith,
-    λ s st.
-        let after = after_reply q r (next + 1) (with_token_used s) old new (used s st) h in
-        begins_ask q (Some r) (next + 1) (with_token_used s) old new (on_answer q) after new (begins_here (on_answer q (Some r) after.state) new),
-  )
-
   pub answered_does : (r : Reply) (fit : Bool) (a : Answer) → Answers q r old new → fit ≡ is_fit q r → Shows r fit a → Does (send_request q) next old (Ok a) (next + 1) new
   answered_does r fit a h e k s none st =
       let after = after_reply q r (next + 1) (with_token_used s) old new (used s st) h in
@@ -159,6 +147,17 @@ module _ (q : Request) (next : ℕ) (old new : Told) where
         u.4,
       )
 
+  -- by what comes of the reply, for which memory may run out
+  pub replied_does : (r : Reply) (result : Result Answer OutOfMemory) → Answers q r old new → IfOk result (Shows r (is_fit q r)) → Does (send_request q) next old result (next + 1) new
+  replied_does r (Ok a) h k = answered_does r (is_fit q r) a h refl k
+  replied_does r (Err m) h k = (
+    omega arith,
+    omega arith,
+    λ s st.
+        let after = after_reply q r (next + 1) (with_token_used s) old new (used s st) h in
+        begins_ask q (Some r) (next + 1) (with_token_used s) old new (on_answer q) after new (begins_here (on_answer q (Some r) after.state) new),
+  )
+
 -- what is left once the paths are looked up
 
 pub tell_finishes : (p : Plan) (rid : Rid) (version : Version) (next : ℕ) (old : Told) (a : Answer) → p ≡ plan.Tell rid version → a ≡ answered (shown.Remote rid version) None → Does (finish p) next old (Ok a) next old
@@ -170,5 +169,5 @@ pub send_finishes : (p : Plan) (q : Request) (next : ℕ) (old : Told) (result :
 send_finishes p q next old result after new e h = subst (λ (x : Plan). Does (finish x) next old result after new) (sym e) h
 
 -- memory runs out before the ask
-pub unsent_does : (q : Request) (next : ℕ) (old : Told) (m : OutOfMemory) (result : Result Answer OutOfMemory) → IsErrAnd result (λ y. y ≡ m) → Does (send_request q) next old result (next + 1) old
-unsent_does q next old m result is = subst (λ (o : Result Answer OutOfMemory). Does (send_request q) next old o (next + 1) old) (sym (err_from_is_err_and result is).1) (omega arith, omega arith, λ s st. inl refl)
+pub unsent_does : (q : Request) (next : ℕ) (old : Told) (m : OutOfMemory) → Does (send_request q) next old (Err m) (next + 1) old
+unsent_does q next old m = (omega arith, omega arith, λ s st. inl refl)

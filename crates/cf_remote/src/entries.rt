@@ -1,12 +1,13 @@
 //! What the reply to a List has under a name.
 
-ghost use Rattle.std.specs.Prelude.{◌≡◌, option_copied};
-ghost use Rattle.cf_model.specs.Peers.{list_of, named};
+ghost use Rattle.std.specs.Prelude.{◌≡◌, IfOk, option_copied, true};
+ghost use Rattle.cf_base.specs.declared.ids.Rid.{Rid};
+ghost use Rattle.cf_model.specs.Peers.{is_fit, list_of, named};
 ghost use Rattle.cf_model.specs.Words.{same};
 ghost use Rattle.cf_remote.specs.Entries.{IsFoundIn, IsListed};
 
 use crate::find_errors::FindError;
-use cf_base::{Entry, Key, Reply, Request, Rid, Sequence};
+use cf_base::{Entry, Key, OutOfMemory, Reply, Request, Rid, Sequence};
 use cf_wire::{NoItems, fits};
 use std::alloc::Global;
 
@@ -61,12 +62,49 @@ pub(crate) fn found_in(
 ) -> Result<Option<Entry>, FindError>
     ensures { IsFoundIn directory name.now reply result }
 {
-    let request = list_of(directory);
-    if !fits(alloc, &NoItems, Rid(0), &request, &reply)? {
-        return Err(FindError::Stray(reply));
+    let Ok(fit) = fits_list(alloc, directory, &reply) else {
+        drop(reply);
+        return Err(FindError::OutOfMemory);
+    };
+    if fit {
+        found_fit(reply, name)
+    } else {
+        Err(FindError::Stray(reply))
     }
-    let entries = entries_of(reply)?;
-    match named(entries.as_slice(), name) {
+}
+
+/// Whether a reply fits a List of the directory.
+fn fits_list(alloc: Global, directory: Rid, reply: &Reply) -> Result<bool, OutOfMemory>
+    ensures { IfOk result (λ b. b ≡ is_fit (list_of directory) reply.now) }
+{
+    let request = list_of(directory);
+    let fit = fits(alloc, &NoItems, Rid(0), &request, reply);
+    drop(request);
+    fit
+}
+
+/// The entry of this name in a reply that fits a List of the directory.
+fn found_fit(reply: Reply, name: &[u8]) -> Result<Option<Entry>, FindError>
+    ensures { (rid : Rid) → is_fit (list_of rid) reply ≡ true → IsFoundIn rid name.now reply result }
+{
+    match entries_of(reply) {
+        Ok(entries) => {
+            let found = copy_named(entries.as_slice(), name);
+            drop(entries);
+            match found {
+                Ok(entry) => Ok(entry),
+                Err(_) => Err(FindError::OutOfMemory),
+            }
+        }
+        Err(fail) => Err(fail),
+    }
+}
+
+/// A copy of the entry of this name.
+fn copy_named(entries: &[Entry], name: &[u8]) -> Result<Option<Entry>, OutOfMemory>
+    ensures { IfOk result (λ e. e ≡ named name.now entries.now) }
+{
+    match named(entries, name) {
         None => Ok(None),
         Some(entry) => Ok(Some(entry.copy()?)),
     }

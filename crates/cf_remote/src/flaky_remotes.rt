@@ -33,7 +33,10 @@ impl FlakyRemote {
     pub fn new(alloc: Global, inner: StoreRemote, fails: &[u64]) -> Result<FlakyRemote, OutOfMemory>
         ensures { IfOk result (λ r. r ≡ record { held = Some inner.held; asks = Some 0; fails = Some fails.now; faults = 0 }) }
     {
-        let fails = Vec::from_slice(alloc, fails)?;
+        let Ok(fails) = Vec::from_slice(alloc, fails) else {
+            drop(inner);
+            return Err(OutOfMemory);
+        };
         Ok(FlakyRemote {
             inner,
             fails,

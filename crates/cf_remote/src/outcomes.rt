@@ -3,14 +3,14 @@
 use cf_base::{Reply, Rid, Token, Version};
 
 /// What became of a token: its request was done, or it never will be.
-#[derive(Clone, Copy, Debug, PartialEq, Eq)]
+#[derive(Clone, Copy)]
 pub(crate) enum Outcome {
     Done { rid: Rid, version: Version },
     Void,
 }
 
 /// A token and what became of it.
-#[derive(Clone, Copy, Debug, PartialEq, Eq)]
+#[derive(Clone, Copy)]
 pub(crate) struct TokenRecord {
     pub(crate) token: Token,
     pub(crate) outcome: Outcome,

@@ -108,6 +108,7 @@ fn walk_to_parent<'a, R: Remote>(
         name = next;
     }
     if !at.dir {
+        drop(at);
         return Err(Stop::Refused(Code::NotDirectory));
     }
     Ok((at, name))

@@ -69,11 +69,17 @@ fn plan_put<R: Remote>(
     ensures room { IfOk result PlanHasRoom }
 {
     let place = parent(alloc, remote, path.as_str())?;
+    let parent = place.0.rid;
+    drop(place.0);
     let name = place.1.as_bytes();
-    let found = child(alloc, remote, place.0.rid, name)?;
+    let found = child(alloc, remote, parent, name)?;
     match found {
-        None => plan_file(alloc, token, place.0.rid, name, bytes),
-        Some(entry) => plan_version(alloc, token, &entry, bytes),
+        None => plan_file(alloc, token, parent, name, bytes),
+        Some(entry) => {
+            let plan = plan_version(alloc, token, &entry, bytes);
+            drop(entry);
+            plan
+        }
     }
 }
 
@@ -89,8 +95,9 @@ fn plan_dir<R: Remote>(
 {
     let place = parent(alloc, remote, path.as_str())?;
     let parent = place.0.rid;
+    drop(place.0);
     let name = place.1.as_bytes();
-    child(alloc, remote, parent, name)?;
+    drop(child(alloc, remote, parent, name)?);
     let name = Blob::from_slice(alloc, name)?;
     Ok(Plan::Send(Request::MakeDir {
         token,
@@ -111,13 +118,17 @@ fn plan_move<R: Remote>(
 {
     let from = from.as_str();
     let entry = below_root(alloc, remote, from)?;
+    let rid = entry.rid;
+    drop(entry);
     let to = to.as_str();
     let place = parent(alloc, remote, to)?;
+    let parent = place.0.rid;
+    drop(place.0);
     let name = Blob::from_slice(alloc, place.1.as_bytes())?;
     Ok(Plan::Send(Request::Move {
         token,
-        rid: entry.rid,
-        parent: place.0.rid,
+        rid,
+        parent,
         name,
     }))
 }

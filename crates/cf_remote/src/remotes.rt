@@ -46,7 +46,9 @@ pub trait Remote {
         ensures { FindsEntry directory name.now (told self.old) result (told self.new) }
     {
         let request = list_of(directory);
-        let reply = self.ask(&request)?;
+        let asked = self.ask(&request);
+        drop(request);
+        let reply = asked?;
         found_in(alloc, directory, reply, name)
     }
 }

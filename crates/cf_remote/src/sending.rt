@@ -67,7 +67,10 @@ fn answer_by(alloc: Global, reply: Reply, fit: bool) -> Answer
     ensures { Shows reply fit result }
 {
     match verdict(&reply, fit) {
-        Some(shown) => answer(alloc, shown, None),
+        Some(shown) => {
+            drop(reply);
+            answer(alloc, shown, None)
+        }
         None => answer(alloc, Shown::Refused(Code::Stale), Some(reply)),
     }
 }
@@ -115,16 +118,32 @@ pub(crate) fn send<R: Remote>(
     requires { HasRoom q }
     ensures { (next : ℕ) → Does (send_request q) next (R.told remote.old) result (next + 1) (R.told remote.new) }
 {
-    let asked = without_bytes(alloc, &q)?;
+    let Ok(asked) = without_bytes(alloc, &q) else {
+        drop(q);
+        return Err(OutOfMemory);
+    };
     match remote.ask_owned(q) {
         Err(e) => {
             drop(asked);
             failed(alloc, e)
         }
         Ok(reply) => {
-            let fit = fits(alloc, &NoItems, Rid(0), &asked, &reply)?;
+            let answer = answer_to(alloc, &asked, reply);
             drop(asked);
-            Ok(answer_by(alloc, reply, fit))
+            answer
+        }
+    }
+}
+
+/// The answer by the reply to a request.
+fn answer_to(alloc: Global, asked: &Request, reply: Reply) -> Result<Answer, OutOfMemory>
+    ensures { IfOk result (Shows reply (is_fit asked.now reply)) }
+{
+    match fits(alloc, &NoItems, Rid(0), asked, &reply) {
+        Ok(fit) => Ok(answer_by(alloc, reply, fit)),
+        Err(_) => {
+            drop(reply);
+            Err(OutOfMemory)
         }
     }
 }

@@ -36,13 +36,13 @@ returns-in-None-clause-plans g c next s e st =
     (λ i. put_at c.args.bytes.now c.in_ok-place.place.0 (sym c.as_bytes-name.ensures.value i) (c.in-None.is i))
     (c.plan_file.ensures.plans next t (g.R.Remote.told c.child.new.remote) e u)))
 
-pub returns-clause-plans : goal.returns-clause-plans
-returns-clause-plans g c next s e st =
-    comes_as (at_place (names_of c.args.path.now) (put_at c.args.bytes.now)) (at_place (names_of c.as_str.result.now) (put_at c.args.bytes.now)) finish next s (g.R.Remote.told c.args.remote.now) c.plan_version.result (g.R.Remote.told c.child.new.remote) (ap (λ (p : List ℕ). at_place (names_of p) (put_at c.args.bytes.now)) (sym c.as_str.ensures))
+pub returns-in-Some-clause-plans : goal.returns-in-Some-clause-plans
+returns-in-Some-clause-plans g c next s e st =
+    comes_as (at_place (names_of c.args.path.now) (put_at c.args.bytes.now)) (at_place (names_of c.as_str.result.now) (put_at c.args.bytes.now)) finish next s (g.R.Remote.told c.args.remote.now) c.plan_version-plan.result (g.R.Remote.told c.child.new.remote) (ap (λ (p : List ℕ). at_place (names_of p) (put_at c.args.bytes.now)) (sym c.as_str.ensures))
     (name_found (put_at c.args.bytes.now) c.in_ok-place.place.0 c.in_ok-place.place.1.now (names_of c.as_str.result.now) next s (g.R.Remote.told c.args.remote.now) (g.R.Remote.told c.parent.new.remote) (c.in_ok-place.ensures.part (at_name (put_at c.args.bytes.now)) next s st)
     c.as_bytes-name.result.now c.as_bytes-name.ensures.value
-    c.in_ok-found.found (g.R.Remote.told c.child.new.remote) c.plan_version.result c.in_ok-found.ensures
+    c.in_ok-found.found (g.R.Remote.told c.child.new.remote) c.plan_version-plan.result c.in_ok-found.ensures
     (λ t u. comes_as (put_at c.args.bytes.now c.in_ok-place.place.0 c.in_ok-place.place.1.now c.in_ok-found.found) (put_at c.args.bytes.now c.in_ok-place.place.0 c.as_bytes-name.result.now (Some c.in-Some.entry)) finish next t
-    (g.R.Remote.told c.child.new.remote) c.plan_version.result (g.R.Remote.told c.child.new.remote)
+    (g.R.Remote.told c.child.new.remote) c.plan_version-plan.result (g.R.Remote.told c.child.new.remote)
     (λ i. put_at c.args.bytes.now c.in_ok-place.place.0 (sym c.as_bytes-name.ensures.value i) (c.in-Some.is i))
-    (c.plan_version.ensures.plans next t (g.R.Remote.told c.child.new.remote) e u)))
+    (c.plan_version-plan.ensures.plans next t (g.R.Remote.told c.child.new.remote) e u)))
