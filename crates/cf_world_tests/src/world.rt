@@ -1,10 +1,8 @@
 //! Whole runs: each status, faults of the outside, and power cuts at each call of the device. Reports stand in tests/.
 
-mod client;
 mod faults;
 mod lengths;
 mod migrations;
-mod openings;
 mod remotes;
 mod sinks;
 mod stops;
