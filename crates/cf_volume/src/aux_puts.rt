@@ -66,7 +66,6 @@ pub(crate) fn set_record<G: Ground>(
     if is_too_long(&parts.contents, before, after) {
         return Err(CallError::No(Code::TableFull));
     }
-    let aux = record_of(parts.alloc, key, value)?;
     note_record(
         parts.alloc,
         &mut parts.then.records,
@@ -74,6 +73,7 @@ pub(crate) fn set_record<G: Ground>(
         &parts.contents.records,
         key,
     )?;
+    let aux = record_of(parts.alloc, key, value)?;
     parts.contents.records.put(aux)?;
     Ok(())
 }

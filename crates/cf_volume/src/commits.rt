@@ -81,6 +81,9 @@ pub(crate) fn commit_parts<G: Ground>(ground: &mut G, parts: &mut Parts) -> Resu
             parts.put_since = 0;
             Ok(())
         }
-        Err(stop) => Err(fail_of(stop)),
+        Err(stop) => {
+            drop(then);
+            Err(fail_of(stop))
+        }
     }
 }

@@ -72,7 +72,10 @@ fn create_parts<D: Disk>(alloc: Global, disk: &mut D) -> Result<Parts, CallError
     let then = nothing_noted(alloc, ItemId(0))?;
     match create(alloc, disk) {
         Ok(made) => Ok(parts_of(alloc, then, made)),
-        Err(stop) => Err(fail_of(stop)),
+        Err(stop) => {
+            drop(then);
+            Err(fail_of(stop))
+        }
     }
 }
 
@@ -97,8 +100,13 @@ fn load_parts<D: Disk>(alloc: Global, disk: &mut D) -> Result<Parts, CallError>
     ensures runs { Runs (D.state disk.old) (D.state disk.new) }
 {
     let then = nothing_noted(alloc, ItemId(0))?;
-    let found = load(alloc, disk)?;
-    Ok(parts_of(alloc, then, found))
+    match load(alloc, disk) {
+        Ok(found) => Ok(parts_of(alloc, then, found)),
+        Err(fail) => {
+            drop(then);
+            Err(fail)
+        }
+    }
 }
 
 impl<D: Disk> VolumeOn<DiskGround<D>> {

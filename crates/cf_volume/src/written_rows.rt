@@ -52,6 +52,7 @@ pub(crate) fn put_row(rows: &mut Rows, row: Row) -> Result<(), OutOfMemory>
     ensures err { OnErr result (rows.new ≡ rows.old) }
 {
     if !has_low_ends(&row) {
+        drop(row);
         return Err(OutOfMemory);
     }
     rows.put_row(row)

@@ -92,9 +92,16 @@ pub(crate) fn copy_item<G: Ground>(
     ensures cause { IfErr result (λ e. IsStop e (G.state ground.old) (G.state ground.new)) }
 {
     let mut row = planned;
-    match rows.get(from) {
+    let copied = match rows.get(from) {
         None => unreachable!(),
-        Some(source) => copy_all(ground, held, source.extents.pairs(), &mut row.extents)?,
+        Some(source) => copy_all(ground, held, source.extents.pairs(), &mut row.extents),
+    };
+    match copied {
+        Ok(()) => {}
+        Err(stop) => {
+            drop(row);
+            return Err(stop);
+        }
     }
     put_row(rows, row)?;
     Ok(())

@@ -121,9 +121,18 @@ fn put_judged<G: Ground>(
     let number = row.number;
     let blocks = block_count(&parts.contents.rows, from);
     if let Some(code) = refusal_of_new(ground, parts, &row, blocks) {
+        drop(row);
         return Err(CallError::No(code));
     }
-    if waits_for_room(ground, parts, blocks)? {
+    let waits = match waits_for_room(ground, parts, blocks) {
+        Ok(waits) => waits,
+        Err(memory) => {
+            drop(row);
+            return Err(CallError::from(memory));
+        }
+    };
+    if waits {
+        drop(row);
         return Ok(None);
     }
     match put_copied(ground, parts, from, row, blocks) {

@@ -91,6 +91,7 @@ fn put_new<G: Ground>(ground: &G, parts: &mut Parts, row: Row) -> Result<Option<
 {
     let number = row.number;
     if let Some(code) = refusal_of_new(ground, parts, &row, 0) {
+        drop(row);
         return Err(CallError::No(code));
     }
     put_made(ground, parts, row)?;

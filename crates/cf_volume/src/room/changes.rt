@@ -81,7 +81,9 @@ pub(crate) fn is_full_now<G: Ground>(
     ensures { (v : model) (b : Book) → At (G.state ground.now) (known_of parts.now) v → HasRecords v.book (with_records list.now parts.now.contents.records) b → IfOk result (λ full. full ≡ table_full v.items b) }
 {
     let tally = first_tally(ground, parts)?;
-    is_full_with(parts.alloc, &parts.contents, &tally.draft, list)
+    let full = is_full_with(parts.alloc, &parts.contents, &tally.draft, list);
+    drop(tally);
+    full
 }
 
 // Whether a change makes an item whose id is past the greatest.
@@ -125,10 +127,17 @@ fn tally_of<G: Ground>(
     ensures { (v : model) → At (G.state ground.now) (known_of parts.now) v → FitInTurn list.now v → IfOk result (λ tally. MatchOption tally ⊥ (λ t. Counts parts.now.contents parts.now.limit t [] list.now v)) }
 {
     let mut so_far = first_tally(ground, parts)?;
-    if !count_changes(parts.alloc, &parts.contents, parts.limit, &mut so_far, list)? {
-        return Ok(None);
+    match count_changes(parts.alloc, &parts.contents, parts.limit, &mut so_far, list) {
+        Ok(true) => Ok(Some(so_far)),
+        Ok(false) => {
+            drop(so_far);
+            Ok(None)
+        }
+        Err(memory) => {
+            drop(so_far);
+            Err(memory)
+        }
     }
-    Ok(Some(so_far))
 }
 
 // Whether changes have room that would be made in order, by a draft.
@@ -138,11 +147,15 @@ fn room_in_turn<G: Ground>(ground: &G, parts: &Parts, list: &[Change]) -> Result
 {
     match tally_of(ground, parts, list)? {
         None => Ok(NO_ROOM),
-        Some(so_far) => Ok(Room {
-            places: has_numbers(parts.contents.last, list),
-            table: so_far.table,
-            blocks: so_far.blocks,
-        }),
+        Some(so_far) => {
+            let room = Room {
+                places: has_numbers(parts.contents.last, list),
+                table: so_far.table,
+                blocks: so_far.blocks,
+            };
+            drop(so_far);
+            Ok(room)
+        }
     }
 }
 
@@ -232,11 +245,14 @@ fn room_beside<G: Ground>(
     match tally_of(ground, parts, list)? {
         None => Ok(NO_ROOM),
         Some(so_far) => {
-            let full = is_full_after(parts, &so_far.draft, list, records)?;
+            let full = is_full_after(parts, &so_far.draft, list, records);
+            let table = so_far.table;
+            let blocks = so_far.blocks;
+            drop(so_far);
             Ok(Room {
                 places: has_numbers(parts.contents.last, list),
-                table: and_not(so_far.table, full),
-                blocks: so_far.blocks,
+                table: and_not(table, full?),
+                blocks,
             })
         }
     }

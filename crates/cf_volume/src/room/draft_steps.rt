@@ -175,6 +175,7 @@ fn draft_make(
             let place = place_of(alloc, *item, *parent, name, pin, number)?;
             let row = Row::made(alloc, place, *kind, *size as u32, identity.copy()?);
             if !is_spellable(&row) {
+                drop(row);
                 return Ok(None);
             }
             draft_row(draft, row)?;
@@ -219,6 +220,7 @@ fn draft_copy(
                 let place = place_of(alloc, *item, *parent, name, pin, number)?;
                 let row = source.copied(alloc, place)?;
                 if !is_spellable(&row) {
+                    drop(row);
                     return Ok(None);
                 }
                 let asked = sizes_of(source).blocks;

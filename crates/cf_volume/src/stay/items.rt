@@ -56,9 +56,18 @@ pub(crate) fn put_stay<G: Ground>(
     };
     let planned = plan_change(parts.alloc, &parts.contents.rows, change, number)?;
     if let Some(code) = refusal_of(ground, parts, change, &planned) {
+        drop(planned);
         return Err(CallError::No(code));
     }
-    if waits_for_room(ground, parts, planned.blocks.len())? {
+    let waits = match waits_for_room(ground, parts, planned.blocks.len()) {
+        Ok(waits) => waits,
+        Err(memory) => {
+            drop(planned);
+            return Err(CallError::from(memory));
+        }
+    };
+    if waits {
+        drop(planned);
         return Ok(None);
     }
     match put_planned(ground, parts, planned, change) {

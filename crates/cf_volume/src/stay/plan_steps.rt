@@ -42,8 +42,11 @@ pub(crate) fn change_item<G: Ground>(
     ensures stays { OnErr result (rows.new ≡ rows.old) }
     ensures cause { IfErr result (λ e. IsStop e (G.state ground.old) (G.state ground.new)) }
 {
-    let mut after = planned.row;
-    match rows.get(id) {
+    let Planned {
+        row: mut after,
+        blocks,
+    } = planned;
+    let settled = match rows.get(id) {
         None => unreachable!(),
         Some(row) => settle_blocks(
             alloc,
@@ -52,9 +55,17 @@ pub(crate) fn change_item<G: Ground>(
             row,
             &after.here,
             &mut after.extents,
-            &planned.blocks,
+            &blocks,
             change,
-        )?,
+        ),
+    };
+    drop(blocks);
+    match settled {
+        Ok(()) => {}
+        Err(stop) => {
+            drop(after);
+            return Err(stop);
+        }
     }
     put_row(rows, after)?;
     Ok(())

@@ -55,12 +55,18 @@ pub(crate) fn put_planned<G: Ground>(
     let id = item_of(change);
     let blocks = planned.blocks.len();
     let _ = parts.contents.rows.image_len();
-    note_row(
+    match note_row(
         &mut parts.then.rows,
         parts.then.next,
         &parts.contents.rows,
         id,
-    )?;
+    ) {
+        Ok(()) => {}
+        Err(memory) => {
+            drop(planned);
+            return Err(Stop::from(memory));
+        }
+    }
     change_item(
         parts.alloc,
         ground,

@@ -18,44 +18,34 @@ use Rattle.cf_volume_image.specs.Contents.{image_of}
 use Rattle.cf_volume.specs.Written.{contents_in}
 use Rattle.cf_volume.proofs.openings.load_parts.Goals as goal
 
-pub returns-in_err-found-clause-none : goal.returns-in_err-found-clause-none
-returns-in_err-found-clause-none g c = λ epoch log b st.
-    handed_on (λ (e : CallError). IsRefused e NotAVolume → ⊥) c.from_residual-in_err-found.result c.in_err-found.field-0.0 c.from_residual-in_err-found.ensures.1
-    (λ is. c.in_err-found.ensures.none (ap Err (refused_as c.in_err-found.field-0.0 NotAVolume is)) epoch log b st)
+pub returns-in-Err-clause-none : goal.returns-in-Err-clause-none
+returns-in-Err-clause-none g c = λ epoch log b st. λ is. c.in-Err.ensures.none (ap Err (refused_as c.in-Err.fail NotAVolume is)) epoch log b st
 
-pub returns-in_err-found-clause-last : goal.returns-in_err-found-clause-last
-returns-in_err-found-clause-last g c = λ epoch log b st.
-    handed_on (λ (e : CallError). IsRefused e Exhausted → epoch ≡ most) c.from_residual-in_err-found.result c.in_err-found.field-0.0 c.from_residual-in_err-found.ensures.1
-    (λ is. (c.in_err-found.ensures.last epoch log b st).0 (ap Err (refused_as c.in_err-found.field-0.0 Exhausted is)))
+pub returns-in-Err-clause-last : goal.returns-in-Err-clause-last
+returns-in-Err-clause-last g c = λ epoch log b st. λ is. (c.in-Err.ensures.last epoch log b st).0 (ap Err (refused_as c.in-Err.fail Exhausted is))
 
-pub returns-clause-ok : goal.returns-clause-ok
-returns-clause-ok g c = λ epoch log b st.
-    subst (λ (k : Known). At (g.D.Disk.state c.load.new.disk) k (opened (epoch + 1) log b (clusters_for (g.D.Disk.state c.args.disk.now)))) (sym c.parts_of.ensures.known) (c.in_ok-found.ensures.ok epoch log b st)
+pub returns-in-Ok-clause-ok : goal.returns-in-Ok-clause-ok
+returns-in-Ok-clause-ok g c = λ epoch log b st.
+    subst (λ (k : Known). At (g.D.Disk.state c.load.new.disk) k (opened (epoch + 1) log b (clusters_for (g.D.Disk.state c.args.disk.now)))) (sym c.parts_of.ensures.known) (c.in-Ok.ensures.ok epoch log b st)
 
-pub returns-clause-more : goal.returns-clause-more
-returns-clause-more g c = λ epoch log b st. (c.in_ok-found.ensures.last epoch log b st).1 refl
+pub returns-in-Ok-clause-more : goal.returns-in-Ok-clause-more
+returns-in-Ok-clause-more g c = λ epoch log b st. (c.in-Ok.ensures.last epoch log b st).1 refl
 
-pub returns-clause-found : goal.returns-clause-found
-returns-clause-found g c = opened_from (g.D.Disk.state c.args.disk.now).seen c.in_ok-found.found _ c.parts_of.ensures.known c.in_ok-found.ensures.found
+pub returns-in-Ok-clause-found : goal.returns-in-Ok-clause-found
+returns-in-Ok-clause-found g c = opened_from (g.D.Disk.state c.args.disk.now).seen c.in-Ok.found _ c.parts_of.ensures.known c.in-Ok.ensures.found
 
-pub returns-in_err-found-clause-absent : goal.returns-in_err-found-clause-absent
-returns-in_err-found-clause-absent g c =
-    handed_on (λ (e : CallError). IsRefused e NotAVolume → (i : Image) → HoldsImage (g.D.Disk.state c.args.disk.now).seen i → ⊥) c.from_residual-in_err-found.result c.in_err-found.field-0.0 c.from_residual-in_err-found.ensures.1
-    (λ is. c.in_err-found.ensures.absent (ap Err (refused_as c.in_err-found.field-0.0 NotAVolume is)))
+pub returns-in-Err-clause-absent : goal.returns-in-Err-clause-absent
+returns-in-Err-clause-absent g c = λ is. c.in-Err.ensures.absent (ap Err (refused_as c.in-Err.fail NotAVolume is))
 
-pub returns-in_err-found-clause-exhausted : goal.returns-in_err-found-clause-exhausted
-returns-in_err-found-clause-exhausted g c =
-    handed_on (λ (e : CallError). IsRefused e Exhausted → (i : Image) × HoldsImage (g.D.Disk.state c.args.disk.now).seen i × (i.header.last.epoch ≡ most)) c.from_residual-in_err-found.result c.in_err-found.field-0.0 c.from_residual-in_err-found.ensures.1
-    (λ is. c.in_err-found.ensures.exhausted (ap Err (refused_as c.in_err-found.field-0.0 Exhausted is)))
+pub returns-in-Err-clause-exhausted : goal.returns-in-Err-clause-exhausted
+returns-in-Err-clause-exhausted g c = λ is. c.in-Err.ensures.exhausted (ap Err (refused_as c.in-Err.fail Exhausted is))
 
-pub returns-in_err-found-clause-unwritten : goal.returns-in_err-found-clause-unwritten
-returns-in_err-found-clause-unwritten g c =
-    handed_on (λ (e : CallError). IsRefused e NotAVolume ⊎ IsRefused e Exhausted → ReadsOnly (g.D.Disk.state c.args.disk.now) (g.D.Disk.state c.load.new.disk)) c.from_residual-in_err-found.result c.in_err-found.field-0.0 c.from_residual-in_err-found.ensures.1
-    (λ is. c.in_err-found.ensures.unwritten (refused_as_one c.in_err-found.field-0.0 NotAVolume Exhausted is))
+pub returns-in-Err-clause-unwritten : goal.returns-in-Err-clause-unwritten
+returns-in-Err-clause-unwritten g c = λ is. c.in-Err.ensures.unwritten (refused_as_one c.in-Err.fail NotAVolume Exhausted is)
 
-pub returns-clause-written : goal.returns-clause-written
-returns-clause-written g c = λ x stands.
-    subst (λ (k : Known). (g.D.Disk.state c.load.new.disk).written ≡ capped ((g.D.Disk.state c.args.disk.now).written + opening_bytes x (image_of (contents_in k)))) (sym c.parts_of.ensures.known) (c.in_ok-found.ensures.written x stands)
+pub returns-in-Ok-clause-written : goal.returns-in-Ok-clause-written
+returns-in-Ok-clause-written g c = λ x stands.
+    subst (λ (k : Known). (g.D.Disk.state c.load.new.disk).written ≡ capped ((g.D.Disk.state c.args.disk.now).written + opening_bytes x (image_of (contents_in k)))) (sym c.parts_of.ensures.known) (c.in-Ok.ensures.written x stands)
 
-pub returns-clause-steady : goal.returns-clause-steady
-returns-clause-steady g c = steady_opened _ _ c.in_ok-found.found _ c.load.ensures.same_size c.parts_of.ensures.known c.in_ok-found.ensures.sound c.in_ok-found.ensures.later c.in_ok-found.ensures.usable
+pub returns-in-Ok-clause-steady : goal.returns-in-Ok-clause-steady
+returns-in-Ok-clause-steady g c = steady_opened _ _ c.in-Ok.found _ c.load.ensures.same_size c.parts_of.ensures.known c.in-Ok.ensures.sound c.in-Ok.ensures.later c.in-Ok.ensures.usable

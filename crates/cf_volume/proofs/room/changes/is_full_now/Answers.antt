@@ -10,4 +10,4 @@ pub returns : goal.returns
 returns g c = λ v b at has.
     let counts = c.in_ok-tally.ensures v [] at _ in
     let drafts = subst (λ (w : model). Drafts c.args.parts.now.contents c.in_ok-tally.tally.draft w) counts.ends counts.drafts in
-    c.is_full_with.ensures v b drafts (subst (λ (l : List AuxRecord). HasRecords v.book (with_records c.args.list.now l) b) at.now.records has)
+    c.is_full_with-full.ensures v b drafts (subst (λ (l : List AuxRecord). HasRecords v.book (with_records c.args.list.now l) b) at.now.records has)

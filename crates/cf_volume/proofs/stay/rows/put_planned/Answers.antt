@@ -14,7 +14,7 @@ returns-clause-at g c = λ v at fits.
     planned_at (g.G.Ground.state c.args.ground.now) (g.G.Ground.state c.change_item.new.ground) (known_of c.args.parts.now) c.args.change.now c.args.planned.row c.args.planned.blocks.items c.change_item.new.held c.change_item.new.rows c.note_row.new.before.rows
     c.requires.steady c.image_len.ensures.rises c.image_len.ensures.kept c.requires.plan
     (subst (λ (n : ItemId). Carries c.args.change.now n c.args.planned.row c.args.planned.blocks.items (g.G.Ground.state c.args.ground.now) (g.G.Ground.state c.change_item.new.ground) c.args.parts.now.held c.change_item.new.held c.args.parts.now.contents.rows c.change_item.new.rows) c.item_of-id.ensures.of c.in_ok-change_item.ensures.carried)
-    (subst (λ (n : ItemId). Notes n c.args.parts.now.then.next c.args.parts.now.contents.rows.rows c.args.parts.now.then.rows.rows c.note_row.new.before.rows) c.item_of-id.ensures.of c.in_ok-note_row.ensures.ok) c.saturating_add-parts.result
+    (subst (λ (n : ItemId). Notes n c.args.parts.now.then.next c.args.parts.now.contents.rows.rows c.args.parts.now.then.rows.rows c.note_row.new.before.rows) c.item_of-id.ensures.of c.in-Ok.ensures.ok) c.saturating_add-parts.result
     v (record { same_size = g.met.G.Ground.same_size c.args.ground.now }) at c.requires.kind fits (counted c.args.parts.now.put_since c.len-blocks.result (length c.args.planned.blocks.items) c.saturating_add-parts.result (omega (arith, c.len-blocks.ensures, c.args.planned.blocks.ok)) c.saturating_add-parts.ensures)
 
 pub returns-clause-steady : goal.returns-clause-steady
@@ -22,7 +22,7 @@ returns-clause-steady g c =
     planned_steady (g.G.Ground.state c.args.ground.now) (g.G.Ground.state c.change_item.new.ground) (known_of c.args.parts.now) c.args.change.now c.args.planned.row c.args.planned.blocks.items c.change_item.new.held c.change_item.new.rows c.note_row.new.before.rows
     c.requires.steady c.image_len.ensures.rises c.image_len.ensures.kept c.requires.plan
     (subst (λ (n : ItemId). Carries c.args.change.now n c.args.planned.row c.args.planned.blocks.items (g.G.Ground.state c.args.ground.now) (g.G.Ground.state c.change_item.new.ground) c.args.parts.now.held c.change_item.new.held c.args.parts.now.contents.rows c.change_item.new.rows) c.item_of-id.ensures.of c.in_ok-change_item.ensures.carried)
-    (subst (λ (n : ItemId). Notes n c.args.parts.now.then.next c.args.parts.now.contents.rows.rows c.args.parts.now.then.rows.rows c.note_row.new.before.rows) c.item_of-id.ensures.of c.in_ok-note_row.ensures.ok) c.saturating_add-parts.result
+    (subst (λ (n : ItemId). Notes n c.args.parts.now.then.next c.args.parts.now.contents.rows.rows c.args.parts.now.then.rows.rows c.note_row.new.before.rows) c.item_of-id.ensures.of c.in-Ok.ensures.ok) c.saturating_add-parts.result
 
 pub change_item-requires-clause-inside : goal.change_item-requires-clause-inside
 change_item-requires-clause-inside g c =
@@ -31,4 +31,4 @@ change_item-requires-clause-inside g c =
 
 pub returns-clause-noted : goal.returns-clause-noted
 returns-clause-noted g c = notes_one (item_of_change c.args.change.now) c.args.parts.now.then.next c.args.parts.now.contents.rows.rows c.args.parts.now.then.rows.rows c.note_row.new.before.rows
-    (subst (λ (n : ItemId). Notes n c.args.parts.now.then.next c.args.parts.now.contents.rows.rows c.args.parts.now.then.rows.rows c.note_row.new.before.rows) c.item_of-id.ensures.of c.in_ok-note_row.ensures.ok)
+    (subst (λ (n : ItemId). Notes n c.args.parts.now.then.next c.args.parts.now.contents.rows.rows c.args.parts.now.then.rows.rows c.note_row.new.before.rows) c.item_of-id.ensures.of c.in-Ok.ensures.ok)
