@@ -1,10 +1,11 @@
 #!/usr/bin/env python3
 """Times a program on large scripts, at half size and whole, and prints a table.
 
-A time is the processor seconds that the program spent in user mode, the least of some runs, with output to a file; so
-what else the machine does counts little. Memory is the most that the program held on the whole, in MiB. Another program
-with the same command line may stand beside: then the ratios of the two on the whole are printed, and the first line in
-which their reports differ.
+A time is the processor seconds that the program and the system spent for it, the least of some runs, with output to a
+file; so what else the machine does counts little. The system counts their sum exactly, and tells the program's own part
+by samples alone, which is nothing to measure a few milliseconds by. Memory is the most that the program held on the
+whole, in MiB. Another program with the same command line may stand beside: then the ratios of the two on the whole are
+printed, and the first line in which their reports differ.
 
 `--commits` times a write and a flush on volumes of 10, 1,000 and 9,000 files instead: a script with 1,000 rounds of
 both, less the same script without them.
@@ -38,7 +39,7 @@ def run(program, mode, script, report):
         child = subprocess.Popen([program, mode], stdin=source, stdout=sink)
         _, status, used = os.wait4(child.pid, 0)
         child.returncode = os.waitstatus_to_exitcode(status)
-    return Cost(used.ru_utime, used.ru_maxrss / 1024) if child.returncode == 0 else None
+    return Cost(used.ru_utime + used.ru_stime, used.ru_maxrss / 1024) if child.returncode == 0 else None
 
 
 def least(program, mode, script, report, runs):
