@@ -62,7 +62,7 @@ stored_pins s k v at keep = rows_pins (cluster_on s.seen) v.book k.table.rows v.
 
 -- a volume with its disk can be written
 
-booked_rows : (cluster : ℕ → List ℕ) (b : Book) (rows : List Row) (items : List Item) → HoldRows cluster b rows items → AreRowsOf b rows items
+pub booked_rows : (cluster : ℕ → List ℕ) (b : Book) (rows : List Row) (items : List Item) → HoldRows cluster b rows items → AreRowsOf b rows items
 booked_rows cluster b [] [] h = tt
 booked_rows cluster b [] (i ∷ is) h = absurd h
 booked_rows cluster b (r ∷ rs) [] h = absurd h

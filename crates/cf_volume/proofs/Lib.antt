@@ -44,3 +44,5 @@ pub mod FewBlocks
 pub mod FlagRuns
 pub mod Longer
 pub mod KeptBytes
+pub mod PutBack
+pub mod Rewound

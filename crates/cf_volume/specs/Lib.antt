@@ -19,3 +19,4 @@ pub mod Written
 pub mod Waits
 pub mod Ahead
 pub mod Growth
+pub mod Rewinding

@@ -1,3 +1,4 @@
 pub mod Behind
 pub mod PlainSteps
 pub mod NewPlain
+pub mod Restarted

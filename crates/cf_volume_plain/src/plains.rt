@@ -59,6 +59,14 @@ impl Plain {
         })
     }
 
+    /// The same ground, with another number of changes after which a commit is wanted, or none.
+    pub fn with_aim(mut self, aim: Option<u64>) -> Plain
+        ensures { result ≡ record self { aim = aim } }
+    {
+        self.aim = aim;
+        self
+    }
+
     fn put(&mut self, cluster: u32, block: &[u8; 4096])
         requires { 4096 * cluster + 4096 ≤ length self.old.bytes }
         ensures { self.new ≡ record self.old { bytes = over (4096 * cluster) block.now self.old.bytes } }

@@ -1,4 +1,4 @@
-use Rattle.std.proofs.Common.{◌≡◌, ◌+◌, ◌≤◌, ℕ, List, length, replicate, ⊎_elim, ◌∙◌, subst, arith}
+use Rattle.std.proofs.Common.{◌≡◌, ◌+◌, ◌≤◌, ℕ, length, replicate, ⊎_elim, ◌∙◌, subst, arith}
 use Rattle.cf_disk.specs.Disk.{part}
 use Rattle.cf_volume_plain.proofs.Behind.{part_filled, part_zeros}
 use Rattle.cf_volume_plain.proofs.blocks.read_block.Goals as goal

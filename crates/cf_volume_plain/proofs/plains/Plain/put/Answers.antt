@@ -1,4 +1,4 @@
-use Rattle.std.proofs.Common.{◌≡◌, ◌+◌, ◌*◌, ◌≤◌, ℕ, List, length, ◌∙◌, ap, arith, sym, subst}
+use Rattle.std.proofs.Common.{◌+◌, ◌*◌, ◌≤◌, ℕ, List, length, ◌∙◌, ap, arith, sym, subst}
 use Rattle.cf_disk.specs.Fronts.{filled}
 use Rattle.cf_disk.specs.Splice.{over}
 use Rattle.cf_volume_plain.proofs.PlainSteps.{front_after, front_long, front_put}
