@@ -9,7 +9,7 @@ use Rattle.cf_filter_events.proofs.Hushed.{same_clusters, same_quota}
 use Rattle.cf_filter_events.proofs.Wholes.{on_hands, on_holds}
 use Rattle.cf_filter_events.specs.Meaning.{OnBy}
 use Rattle.cf_filter_events.specs.Pasts.{Past, StandsFor}
-use Rattle.cf_filter_events.specs.declared.places.Running.{Running as Run}
+use Rattle.cf_filter_events.specs.declared.places.RunningOn.{RunningOn as Run}
 use Rattle.cf_filter_machine.specs.Held.{Desk, Held}
 use Rattle.cf_filter_machine.specs.Sensing as sensing
 use Rattle.cf_journal.specs.Settled.{IsFitSize}

@@ -10,7 +10,7 @@ use Rattle.cf_engine.specs.Actors.{Syncing, acts_of}
 use Rattle.cf_filter_events.specs.Meaning.{IsOn}
 use Rattle.cf_filter_events.specs.Pasts.{Past}
 use Rattle.cf_filter_events.specs.Stepped.{Steps}
-use Rattle.cf_filter_events.specs.declared.places.Running.{Running as Run}
+use Rattle.cf_filter_events.specs.declared.places.RunningOn.{RunningOn as Run}
 use Rattle.cf_model.specs.State.{Link, On, State, Volume, fresh, new_filter, nothing_yet}
 use Rattle.cf_remote.specs.Told.{Told}
 

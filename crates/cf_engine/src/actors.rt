@@ -9,13 +9,13 @@ ghost use Rattle.cf_model.specs.Store.{Held};
 ghost use Rattle.cf_remote.specs.Peers.{IsCount, IsHeld};
 
 use cf_base::{Answer, Event, Mode, OutOfMemory, no_such_state};
-use cf_disk::Disk;
 use cf_engine_steps::Engine;
-use cf_filter::Filter;
+use cf_filter::FilterOn;
 use cf_filter_events::Actor;
 use cf_link::Link;
 use cf_provider::{Callback, Port, Provider};
 use cf_remote::Remote;
+use cf_volume_ground::Ground;
 use std::alloc::Global;
 use std::marker::Model;
 
@@ -124,10 +124,10 @@ impl<R: Remote> Actor for SyncActor<R> {
         }
     }
 
-    fn act<D: Disk>(
+    fn act<G: Ground>(
         &mut self,
         alloc: Global,
-        filter: &mut Filter<D>,
+        filter: &mut FilterOn<G>,
         event: &Event,
     ) -> Result<Answer, OutOfMemory> {
         match event {

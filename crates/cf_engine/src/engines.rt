@@ -33,7 +33,7 @@ use crate::openings::fits_engine;
 use cf_base::{Answer, Call, CallError, Code, EngineEvent, Event, OutOfMemory, Policy};
 use cf_disk::Disk;
 use cf_filter::Filter;
-use cf_filter_events::Running;
+use cf_filter_events::{Running, RunningOn};
 use cf_journal::one_content;
 use cf_link::Link;
 use cf_remote::Remote;
@@ -55,7 +55,7 @@ pub struct SyncEngine<D: Disk, R: Remote> {
 
 impl<D: Disk, R: Remote> Model for SyncEngine<D, R> {
     ghost use Rattle.cf_engine.specs.Actors.{Syncing};
-    ghost use Rattle.cf_filter_events.specs.declared.places.Running.{Running as Run};
+    ghost use Rattle.cf_filter_events.specs.declared.places.RunningOn.{RunningOn as Run};
 
     ghost Value = { Run D (Syncing R) };
 
@@ -72,7 +72,7 @@ fn on_filter<D: Disk, R: Remote>(
     let actor = SyncActor::on_link(alloc, link);
     SyncEngine {
         alloc,
-        running: Running { filter, actor },
+        running: RunningOn { filter, actor },
     }
 }
 
@@ -157,7 +157,7 @@ impl<D: Disk, R: Remote> SyncEngine<D, R> {
         ensures lasts { (past : Past) (s : State) → IsSyncing D.state R.told past self s → (c : List ℕ) → (D.state result.0).may_leave c → StandsNow StandsFor s c }
         ensures link { (past : Past) (s : State) → IsSyncing D.state R.told past self s → IsLink R.told result.1 s.link }
     {
-        let Running { filter, actor } = self.running;
+        let RunningOn { filter, actor } = self.running;
         (filter.into_disk(), actor.into_link())
     }
 

@@ -13,22 +13,22 @@ ghost use Rattle.cf_model.specs.Events.{engine_needs};
 
 use crate::actors::SyncActor;
 use cf_base::{Answer, CallError, EngineEvent, Notes, OutOfMemory, Shown, no_such_state};
-use cf_disk::Disk;
 use cf_engine_passes::{deliver, sync, work};
 use cf_engine_space::space;
 use cf_engine_steps::Engine;
-use cf_filter::{Filter, Told};
+use cf_filter::{FilterOn, Told};
 use cf_filter_events::answered;
 use cf_remote::Remote;
+use cf_volume_ground::Ground;
 use std::alloc::Global;
 
 // What the event does. One that needs no volume is none of these.
-fn part<D: Disk, R: Remote>(
-    filter: &mut Filter<D>,
+fn part<G: Ground, R: Remote>(
+    filter: &mut FilterOn<G>,
     engine: &mut Engine<R>,
     event: EngineEvent,
 ) -> Result<Shown, CallError>
-    ensures { Answers (whole (sense D.state) R.told) Any (engine_event event) (filter.old, engine.old) result (filter.new, engine.new) }
+    ensures { Answers (whole (sense G.state) R.told) Any (engine_event event) (filter.old, engine.old) result (filter.new, engine.new) }
 {
     match event {
         EngineEvent::Deliver { message } => deliver(filter, engine, message),
@@ -50,14 +50,14 @@ fn said(told: Result<Shown, CallError>) -> Told<Shown>
 }
 
 // The event as one session of notes on the filter, which no call has broken.
-fn session<D: Disk, R: Remote>(
+fn session<G: Ground, R: Remote>(
     alloc: Global,
-    filter: &mut Filter<D>,
+    filter: &mut FilterOn<G>,
     engine: &mut Engine<R>,
     event: EngineEvent,
 ) -> Result<Answer, OutOfMemory>
     requires { engine_needs event ≡ true }
-    ensures { StepsEngine D.state R.told event filter.old engine.old result filter.new engine.new }
+    ensures { StepsEngine G.state R.told event filter.old engine.old result filter.new engine.new }
 {
     let mut notes = Notes::new(alloc);
     if filter.begin(&mut notes).is_err() {
@@ -70,14 +70,14 @@ fn session<D: Disk, R: Remote>(
 
 impl<R: Remote> SyncActor<R> {
     /// Does an event of the engine that needs the volume, which it has begun.
-    pub(crate) fn do_engine<D: Disk>(
+    pub(crate) fn do_engine<G: Ground>(
         &mut self,
         alloc: Global,
-        filter: &mut Filter<D>,
+        filter: &mut FilterOn<G>,
         event: EngineEvent,
     ) -> Result<Answer, OutOfMemory>
         requires { engine_needs event ≡ true }
-        ensures { StepsOn (acts_of R.told) D.state (events.Engine event) (record { filter = filter.old; actor = self.old }) result (record { filter = filter.new; actor = self.new }) }
+        ensures { StepsOn (acts_of R.told) G.state (events.Engine event) (record { filter = filter.old; actor = self.old }) result (record { filter = filter.new; actor = self.new }) }
     {
         session(alloc, filter, &mut self.engine, event)
     }

@@ -11,11 +11,11 @@ ghost use Rattle.cf_filter_steps.specs.Answering.{Answers, IsAt};
 ghost use Rattle.cf_engine_host.specs.BookSteps.{with_book_of};
 
 use crate::engine_steps::given;
-use crate::filters::Filter;
+use crate::filters::FilterOn;
 use cf_base::{CallError, ItemId};
-use cf_disk::Disk;
-use cf_filter_machine::Machine;
+use cf_filter_machine::MachineOn;
 use cf_table::Row;
+use cf_volume_ground::Ground;
 
 // Whether the item of a row never changed, or there is no row.
 fn is_unnumbered(row: Option<&Row>) -> bool
@@ -29,8 +29,8 @@ fn is_unnumbered(row: Option<&Row>) -> bool
 
 /// Makes the anchor of an item its number, durable with the next commit. An item that never changed keeps what it has. Of an
 /// item that is not there nothing is promised.
-pub(crate) fn put_anchor<D: Disk>(machine: &mut Machine<D>, id: ItemId) -> Result<(), CallError>
-    ensures { (i : Item) → Answers (sense D.state) (IsAt id i) (noted (with_book_of (anchored_at id i.number))) machine.old result machine.new }
+pub(crate) fn put_anchor<G: Ground>(machine: &mut MachineOn<G>, id: ItemId) -> Result<(), CallError>
+    ensures { (i : Item) → Answers (sense G.state) (IsAt id i) (noted (with_book_of (anchored_at id i.number))) machine.old result machine.new }
 {
     let row = machine.volume.row(id);
     if row.is_none() {
@@ -45,13 +45,13 @@ pub(crate) fn put_anchor<D: Disk>(machine: &mut Machine<D>, id: ItemId) -> Resul
     Ok(())
 }
 
-impl<D: Disk> Filter<D> {
+impl<G: Ground> FilterOn<G> {
     ghost use Rattle.cf_filter.specs.Handing.{Hands};
 
     /// Makes the anchor of an item its number, durable with the next commit. An item that never changed keeps what it has.
     /// Refused as Broken.
     pub fn anchor(&mut self, id: ItemId) -> Result<(), CallError>
-        ensures { (i : Item) → Hands (sense D.state) (IsAt id i) (noted (with_book_of (anchored_at id i.number))) self.old result self.new }
+        ensures { (i : Item) → Hands (sense G.state) (IsAt id i) (noted (with_book_of (anchored_at id i.number))) self.old result self.new }
     {
         self.check()?;
         let first = put_anchor(&mut self.machine, id);

@@ -2,11 +2,11 @@
 
 ghost use Rattle.std.specs.Prelude.{◌≡◌, [], unwrap_or, IfOk};
 
-use crate::filters::Filter;
+use crate::filters::FilterOn;
 use cf_base::{Ask, CallError, Code, Identity, OutOfMemory, Shown};
-use cf_disk::Disk;
 use cf_provider::{Callback, Provider};
 use cf_table::Row;
+use cf_volume_ground::Ground;
 use std::alloc::Global;
 
 fn base_of(row: &Row) -> u64
@@ -43,7 +43,7 @@ fn callback_gone(alloc: Global, ask: Ask) -> Result<Callback, OutOfMemory>
     })
 }
 
-impl<D: Disk> Filter<D> {
+impl<G: Ground> FilterOn<G> {
     ghost use Rattle.std.specs.Prelude.{◌≡◌, IfOk};
     ghost use Rattle.cf_base.specs.declared.answers.Shown.{Shown};
     ghost use Rattle.cf_provider.specs.Sights.{callback_of};
@@ -57,7 +57,7 @@ impl<D: Disk> Filter<D> {
     ghost use Rattle.cf_filter_steps.specs.Answering.{Any, Reads};
 
     fn callback(&self, ask: Ask) -> Result<Callback, OutOfMemory>
-        ensures { IfOk result (Reads (sense D.state) Any (callback_of ask) self.now) }
+        ensures { IfOk result (Reads (sense G.state) Any (callback_of ask) self.now) }
     {
         match self.rows().get(ask.item) {
             Some(row) => callback_on(ask, row),
@@ -80,7 +80,7 @@ impl<D: Disk> Filter<D> {
     }
 
     fn call_back<P: Provider>(&mut self, ask: Ask, p: &mut P) -> Result<(), CallError>
-        ensures { Turns D.state P.answers ask p.old self.old result p.new self.new }
+        ensures { Turns G.state P.answers ask p.old self.old result p.new self.new }
     {
         let call = self.callback(ask)?;
         let told = p.on_callback(&call, self);
@@ -90,7 +90,7 @@ impl<D: Disk> Filter<D> {
     /// Calls the provider for each ask that waits for it, in their order, each after the earlier ones have returned, until none is
     /// left. Each callback spends a key of the epoch, so that there are no more than keys.
     pub fn drain<P: Provider>(&mut self, p: &mut P) -> Result<(), CallError>
-        ensures { DrainsBy (sense D.state) P.answers p.old self.old result p.new self.new }
+        ensures { DrainsBy (sense G.state) P.answers p.old self.old result p.new self.new }
     {
         for called in 0..u32::MAX {
             let Some(ask) = self.next_ask() else {
@@ -120,7 +120,7 @@ impl<D: Disk> Filter<D> {
         told: Result<Shown, CallError>,
         p: &mut P,
     ) -> Result<Shown, CallError>
-        ensures { (part : Arrow model Shown) (x : Held D) (s : model) → PartTo D.state part x s told self.old → CallsTo D.state P.answers part p.old x s result p.new self.new }
+        ensures { (part : Arrow model Shown) (x : Held G) (s : model) → PartTo G.state part x s told self.old → CallsTo G.state P.answers part p.old x s result p.new self.new }
     {
         let shown = told?;
         match self.drain(p) {

@@ -1,19 +1,22 @@
-//! A filter on a disk.
+//! A filter.
 
-use cf_disk::Disk;
-use cf_filter_machine::Machine;
+use cf_filter_machine::MachineOn;
+use cf_volume_ground::{DiskGround, Ground};
 use std::marker::Model;
 
-/// A filter on a disk: a volume, and what stands in memory beside it until a restart.
+/// A filter: a volume, and what stands in memory beside it until a restart.
 #[derive(Drop)]
-pub struct Filter<D: Disk> {
-    pub(crate) machine: Machine<D>,
+pub struct FilterOn<G: Ground> {
+    pub(crate) machine: MachineOn<G>,
 }
 
-impl<D: Disk> Model for Filter<D> {
+/// A filter on a disk.
+pub type Filter<D> = FilterOn<DiskGround<D>>;
+
+impl<G: Ground> Model for FilterOn<G> {
     ghost use Rattle.cf_filter_machine.specs.Held.{Held};
 
-    ghost Value = { Held D };
+    ghost Value = { Held G };
 
     ghost view = { λ f. f.machine };
 }

@@ -16,12 +16,12 @@ ghost use Rattle.cf_model.specs.State.{with_notes};
 ghost use Rattle.cf_model.specs.Words.{part};
 
 use crate::anchors::put_anchor;
-use crate::filters::Filter;
+use crate::filters::FilterOn;
 use crate::records::put_aux;
 use cf_base::{AuxRecord, CallError, ItemId, Notice, OutOfMemory, Shown, Usn, no_such_state};
-use cf_disk::Disk;
-use cf_filter_machine::Machine;
+use cf_filter_machine::MachineOn;
 use cf_table::Row;
+use cf_volume_ground::Ground;
 use cf_volume_image::AuxRecords;
 
 /// The most bytes of a record's key.
@@ -31,29 +31,29 @@ const MOST_KEY: usize = 255;
 const MOST_VALUE: usize = 65_535;
 
 /// The epoch of the volume.
-pub(crate) fn epoch<D: Disk>(filter: &Filter<D>) -> u32
-    ensures { Reads (sense D.state) Any epoch_of filter.now result }
+pub(crate) fn epoch<G: Ground>(filter: &FilterOn<G>) -> u32
+    ensures { Reads (sense G.state) Any epoch_of filter.now result }
 {
     filter.volume().epoch()
 }
 
 /// The records of the book, by key.
-pub(crate) fn records<D: Disk>(filter: &Filter<D>) -> &[AuxRecord]
-    ensures { Reads (sense D.state) Any records_of filter.now result.now }
+pub(crate) fn records<G: Ground>(filter: &FilterOn<G>) -> &[AuxRecord]
+    ensures { Reads (sense G.state) Any records_of filter.now result.now }
 {
     filter.volume().records()
 }
 
 /// The same records, which can be asked by the numbers in them.
-pub(crate) fn aux_records<D: Disk>(filter: &Filter<D>) -> &AuxRecords
-    ensures { Reads (sense D.state) Any records_of filter.now result.now }
+pub(crate) fn aux_records<G: Ground>(filter: &FilterOn<G>) -> &AuxRecords
+    ensures { Reads (sense G.state) Any records_of filter.now result.now }
 {
     filter.volume().aux_records()
 }
 
 /// Adds a line at the end of the running event's notes.
-pub(crate) fn add_line<D: Disk>(filter: &mut Filter<D>, line: Notice) -> Result<(), CallError>
-    ensures { Answers (sense D.state) Any (noted (with_notes (line ∷ []))) filter.old result filter.new }
+pub(crate) fn add_line<G: Ground>(filter: &mut FilterOn<G>, line: Notice) -> Result<(), CallError>
+    ensures { Answers (sense G.state) Any (noted (with_notes (line ∷ []))) filter.old result filter.new }
 {
     filter.add_note(line)?;
     Ok(())
@@ -66,8 +66,8 @@ fn is_short(key: &[u8], value: &[u8]) -> bool
 }
 
 // Puts a record, where it is one that the table can hold. No book has another.
-fn put_short<D: Disk>(machine: &mut Machine<D>, aux: &AuxRecord) -> Result<bool, OutOfMemory>
-    ensures { (f : Book → Book) → Answers (sense D.state) (PutsBeside aux.now f) (attempt (why_full f) (noted (with_book_of f))) machine.old (aux_outcome result) machine.new }
+fn put_short<G: Ground>(machine: &mut MachineOn<G>, aux: &AuxRecord) -> Result<bool, OutOfMemory>
+    ensures { (f : Book → Book) → Answers (sense G.state) (PutsBeside aux.now f) (attempt (why_full f) (noted (with_book_of f))) machine.old (aux_outcome result) machine.new }
 {
     let key = aux.key.as_slice();
     let value = aux.value.as_slice();
@@ -80,11 +80,11 @@ fn put_short<D: Disk>(machine: &mut Machine<D>, aux: &AuxRecord) -> Result<bool,
 /// Puts a record of the book in place of the one with its key, or beside the others where none has it. True where it was put. False
 /// where the table has no room for it, and then nothing is changed. Each new book that differs by this record alone, and that
 /// records keep, is the one that stands then. Out of memory also for a key over 255 bytes or a value over 65,535, which no book has.
-pub(crate) fn put_record<D: Disk>(
-    filter: &mut Filter<D>,
+pub(crate) fn put_record<G: Ground>(
+    filter: &mut FilterOn<G>,
     aux: &AuxRecord,
 ) -> Result<bool, CallError>
-    ensures { (f : Book → Book) → Answers (sense D.state) (PutsBeside aux.now f) (attempt (why_full f) (noted (with_book_of f))) filter.old (put_outcome result) filter.new }
+    ensures { (f : Book → Book) → Answers (sense G.state) (PutsBeside aux.now f) (attempt (why_full f) (noted (with_book_of f))) filter.old (put_outcome result) filter.new }
 {
     let put = put_short(&mut filter.machine, aux)?;
     Ok(put)
@@ -103,8 +103,8 @@ fn dropped(put: Result<bool, OutOfMemory>) -> Result<(), CallError>
 
 /// Takes the record of the book with this key out, where there is one. Each new book that differs by this alone, and that records
 /// keep, is the one that stands then. Out of memory also for a key over 255 bytes, which no record has.
-pub(crate) fn drop_record<D: Disk>(filter: &mut Filter<D>, key: &[u8]) -> Result<(), CallError>
-    ensures { (f : Book → Book) → Answers (sense D.state) (DropsRecord key.now f) (noted (with_book_of f)) filter.old result filter.new }
+pub(crate) fn drop_record<G: Ground>(filter: &mut FilterOn<G>, key: &[u8]) -> Result<(), CallError>
+    ensures { (f : Book → Book) → Answers (sense G.state) (DropsRecord key.now f) (noted (with_book_of f)) filter.old result filter.new }
 {
     if key.len() > MOST_KEY {
         return Err(CallError::from(no_such_state()));
@@ -114,8 +114,11 @@ pub(crate) fn drop_record<D: Disk>(filter: &mut Filter<D>, key: &[u8]) -> Result
 }
 
 /// Makes the number that an item has its anchor. The item is there, and its number is not 0.0. All else stays as it is.
-pub(crate) fn keep_anchor<D: Disk>(filter: &mut Filter<D>, item: ItemId) -> Result<(), CallError>
-    ensures { (i : Item) → Answers (sense D.state) (HasNumber item i) (noted (with_book_of (with_anchor item i.number))) filter.old result filter.new }
+pub(crate) fn keep_anchor<G: Ground>(
+    filter: &mut FilterOn<G>,
+    item: ItemId,
+) -> Result<(), CallError>
+    ensures { (i : Item) → Answers (sense G.state) (HasNumber item i) (noted (with_book_of (with_anchor item i.number))) filter.old result filter.new }
 {
     put_anchor(&mut filter.machine, item)
 }
@@ -131,15 +134,15 @@ fn anchor_in(row: Option<&Row>) -> Usn
 }
 
 /// The number that an item had at its last upload, 0.0 before one and of an item that is not there.
-pub(crate) fn anchor<D: Disk>(filter: &Filter<D>, item: ItemId) -> Usn
-    ensures { (i : Item) → Reads (sense D.state) (IsAt item i) (anchor_at item) filter.now result }
+pub(crate) fn anchor<G: Ground>(filter: &FilterOn<G>, item: ItemId) -> Usn
+    ensures { (i : Item) → Reads (sense G.state) (IsAt item i) (anchor_at item) filter.now result }
 {
     anchor_in(filter.rows().get(item))
 }
 
 /// A call of the filter is over, after its callbacks: its answer. Of a wait that ended meanwhile that is how it ended.
-pub(crate) fn end_call<D: Disk>(filter: &mut Filter<D>, shown: Shown) -> Shown
-    ensures { Answers (sense D.state) Any (finish shown) filter.old (Ok result) filter.new }
+pub(crate) fn end_call<G: Ground>(filter: &mut FilterOn<G>, shown: Shown) -> Shown
+    ensures { Answers (sense G.state) Any (finish shown) filter.old (Ok result) filter.new }
 {
     filter.end_call(shown)
 }

@@ -1,14 +1,14 @@
 //! A filter as the host of an engine.
 
-use crate::filters::Filter;
+use crate::filters::FilterOn;
 use crate::host_steps;
 use cf_base::{AuxRecord, CallError, ItemId, Notice, Shown, Usn};
-use cf_disk::Disk;
 use cf_engine_host::EngineHost;
 use cf_provider::Provider;
+use cf_volume_ground::Ground;
 use cf_volume_image::AuxRecords;
 
-impl<D: Disk> EngineHost for Filter<D> {
+impl<G: Ground> EngineHost for FilterOn<G> {
     ghost use Rattle.cf_filter_machine.specs.Sensing.{keepable as keeps_book};
 
     fn epoch(&self) -> u32 {
@@ -44,12 +44,12 @@ impl<D: Disk> EngineHost for Filter<D> {
     }
 
     fn drain<P: Provider>(&mut self, provider: &mut P) -> Result<(), CallError> {
-        Filter::drain(self, provider)
+        FilterOn::drain(self, provider)
     }
 
     fn end_call(&mut self, shown: Shown) -> Shown {
         host_steps::end_call(self, shown)
     }
 
-    ghost keepable = { keeps_book D.state };
+    ghost keepable = { keeps_book G.state };
 }

@@ -1,13 +1,13 @@
 //! Items that go, move or are pinned.
 #![tactic(auto, using(crate::proofs::Called::called_not, crate::proofs::Called::called_not_with))]
 
-use crate::filters::Filter;
+use crate::filters::FilterOn;
 use crate::shown_values::done;
 use cf_base::{CallError, Mode, Notes, Pin, Reach};
-use cf_disk::Disk;
 use cf_filter_calls::{delete, rename, set_pin};
+use cf_volume_ground::Ground;
 
-impl<D: Disk> Filter<D> {
+impl<G: Ground> FilterOn<G> {
     ghost use Rattle.std.specs.Prelude.{◌≡◌};
     ghost use Rattle.cf_filter.specs.Calling.{Calls, noted, shows_done};
     ghost use Rattle.cf_filter_machine.specs.Sensing.{sense};
@@ -16,7 +16,7 @@ impl<D: Disk> Filter<D> {
     /// Removes an item. In mode Replay its tombstone is left in the same step, where its identity names a target. Refused as
     /// Broken, as the look-up, NotPopulated, NotEmpty, InUse, Exhausted, Device.
     pub fn delete(&mut self, mode: Mode, path: &str, notes: &mut Notes) -> Result<(), CallError>
-        ensures does { Calls (sense D.state) shows_done (delete mode path.now) (noted notes.old self.old) result (noted notes.new self.new) }
+        ensures does { Calls (sense G.state) shows_done (delete mode path.now) (noted notes.old self.old) result (noted notes.new self.new) }
         ensures keeps { self.new.desk.notes ≡ self.old.desk.notes }
     {
         self.begin(notes)?;
@@ -27,7 +27,7 @@ impl<D: Disk> Filter<D> {
     /// Moves an item to another path; to its own place it changes nothing. Refused as Broken, as the look-up of both, first
     /// that of `from`, as IntoItself, TooDeep, Exists, Exhausted, TableFull, Device.
     pub fn rename(&mut self, from: &str, to: &str, notes: &mut Notes) -> Result<(), CallError>
-        ensures does { Calls (sense D.state) shows_done (rename from.now to.now) (noted notes.old self.old) result (noted notes.new self.new) }
+        ensures does { Calls (sense G.state) shows_done (rename from.now to.now) (noted notes.old self.old) result (noted notes.new self.new) }
         ensures keeps { self.new.desk.notes ≡ self.old.desk.notes }
     {
         self.begin(notes)?;
@@ -44,7 +44,7 @@ impl<D: Disk> Filter<D> {
         reach: Reach,
         notes: &mut Notes,
     ) -> Result<(), CallError>
-        ensures does { Calls (sense D.state) shows_done (set_pin path.now state reach) (noted notes.old self.old) result (noted notes.new self.new) }
+        ensures does { Calls (sense G.state) shows_done (set_pin path.now state reach) (noted notes.old self.old) result (noted notes.new self.new) }
         ensures keeps { self.new.desk.notes ≡ self.old.desk.notes }
     {
         self.begin(notes)?;

@@ -4,13 +4,13 @@
 ghost use Rattle.cf_base.specs.declared.answers.Shown.TheVariants as shown;
 
 use crate::answers::Info;
-use crate::filters::Filter;
+use crate::filters::FilterOn;
 use crate::shown_values::{answer, blocks, clock, info, runs};
 use cf_base::{CallError, Class, Sequence, Span};
-use cf_disk::Disk;
 use cf_filter_calls as calls;
+use cf_volume_ground::Ground;
 
-impl<D: Disk> Filter<D> {
+impl<G: Ground> FilterOn<G> {
     ghost use Rattle.cf_filter.specs.Calling.{Asks};
     ghost use Rattle.cf_filter_machine.specs.Sensing.{sense};
     ghost use Rattle.cf_filter.specs.Showing.{shows_blocks, shows_info};
@@ -18,7 +18,7 @@ impl<D: Disk> Filter<D> {
 
     /// What is told of the item at a path. Refused as Broken, as the look-up.
     pub fn info(&self, path: &str) -> Result<Info, CallError>
-        ensures { Asks (sense D.state) shows_info (info path.now) self.now result }
+        ensures { Asks (sense G.state) shows_info (info path.now) self.now result }
     {
         self.check()?;
         let told = calls::info(&self.machine, path);
@@ -28,7 +28,7 @@ impl<D: Disk> Filter<D> {
     /// The runs of bytes of the file at a path that are of a class, in order (CfGetPlaceholderRangeInfo). Refused as
     /// Broken, as the look-up, IsDirectory.
     pub fn ranges(&self, path: &str, class: Class) -> Result<Sequence<Span>, CallError>
-        ensures { Asks (sense D.state) shown.Ranges (ranges path.now class) self.now result }
+        ensures { Asks (sense G.state) shown.Ranges (ranges path.now class) self.now result }
     {
         self.check()?;
         let told = calls::ranges(&self.machine, path, class);
@@ -37,7 +37,7 @@ impl<D: Disk> Filter<D> {
 
     /// The clock of the last access of the file at a path, 0 of none. Refused as Broken, as the look-up, IsDirectory.
     pub fn used(&self, path: &str) -> Result<u64, CallError>
-        ensures { Asks (sense D.state) shown.Used (used path.now) self.now result }
+        ensures { Asks (sense G.state) shown.Used (used path.now) self.now result }
     {
         self.check()?;
         let told = calls::used(&self.machine, path);
@@ -46,7 +46,7 @@ impl<D: Disk> Filter<D> {
 
     /// How many blocks hold bytes, and how many clusters there are. Refused as Broken.
     pub fn df(&self) -> Result<(u32, u32), CallError>
-        ensures { Asks (sense D.state) shows_blocks df self.now result }
+        ensures { Asks (sense G.state) shows_blocks df self.now result }
     {
         self.check()?;
         let told = calls::df(&self.machine);

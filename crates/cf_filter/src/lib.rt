@@ -1,4 +1,4 @@
-//! The filter: a volume on a disk, and what stands in memory beside it until a restart.
+//! The filter: a volume, and what stands in memory beside it until a restart. A `Filter` stands on a disk, a `FilterOn` on any ground.
 //!
 //! Contracts see a `Filter` as its disk, what is known of the volume on it, and its desk (specs/Held of `cf_filter_machine`). How these stand for
 //! states of the definitions says `sense` (specs/Sensing there). Where the device stops a call, the disk's count of faults rose
@@ -29,5 +29,5 @@ mod steps;
 mod writes;
 
 pub use answers::{Info, Waited};
-pub use filters::Filter;
+pub use filters::{Filter, FilterOn};
 pub use shown_values::Told;

@@ -4,11 +4,12 @@ ghost use Rattle.std.specs.Prelude.{◌≡◌, Some, option_map};
 ghost use Rattle.cf_disk.specs.Disk.{IsUnchanged};
 ghost use Rattle.cf_filter.specs.Starting.{desk_at};
 
-use crate::filters::Filter;
+use crate::filters::{Filter, FilterOn};
 use cf_base::{CallError, Policy};
 use cf_disk::Disk;
-use cf_filter_machine::{Desk, Machine};
+use cf_filter_machine::{Desk, Machine, MachineOn};
 use cf_volume::Volume;
+use cf_volume_ground::DiskGround;
 use std::alloc::Global;
 
 fn arm_on<D: Disk>(machine: &mut Machine<D>, calls: u32)
@@ -20,7 +21,7 @@ fn arm_on<D: Disk>(machine: &mut Machine<D>, calls: u32)
     machine.volume.arm(calls);
 }
 
-impl<D: Disk> Filter<D> {
+impl<D: Disk> FilterOn<DiskGround<D>> {
     ghost use Rattle.std.specs.Prelude.{◌+◌, ◌<◌, ◌⊎◌, ℕ, List, IfErr, IfOk};
     ghost use Rattle.cf_base.specs.declared.changes.Change.{Change};
     ghost use Rattle.cf_base.specs.declared.codes.Code.TheVariants.{Exhausted, NotAVolume};
@@ -44,8 +45,8 @@ impl<D: Disk> Filter<D> {
         ensures { result ≡ record { disk = volume.disk; known = volume.known; desk = desk_at volume.known.epoch policy } }
     {
         let desk = Desk::new(alloc, volume.epoch(), policy);
-        Filter {
-            machine: Machine { volume, desk },
+        FilterOn {
+            machine: MachineOn { volume, desk },
         }
     }
 
@@ -60,7 +61,7 @@ impl<D: Disk> Filter<D> {
         ensures runs_back { IfErr result (λ e. Runs (D.state disk) (D.state e.0)) }
     {
         match Volume::format(alloc, disk) {
-            Ok(volume) => Ok(Filter::on_volume(alloc, volume, policy)),
+            Ok(volume) => Ok(FilterOn::on_volume(alloc, volume, policy)),
             Err(back) => Err(back),
         }
     }
@@ -90,7 +91,7 @@ impl<D: Disk> Filter<D> {
         ensures runs_back { IfErr result (λ e. Runs (D.state disk) (D.state e.0)) }
     {
         match Volume::open(alloc, disk) {
-            Ok(volume) => Ok(Filter::on_volume(alloc, volume, policy)),
+            Ok(volume) => Ok(FilterOn::on_volume(alloc, volume, policy)),
             Err(back) => Err(back),
         }
     }
@@ -99,7 +100,7 @@ impl<D: Disk> Filter<D> {
     pub fn into_disk(self) -> D
         ensures { result ≡ self.disk }
     {
-        let Machine { volume, desk } = self.machine;
+        let MachineOn { volume, desk } = self.machine;
         drop(desk);
         volume.into_disk()
     }

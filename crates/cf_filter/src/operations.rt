@@ -1,14 +1,14 @@
 //! Waits and operations of the provider.
 #![tactic(auto, using(crate::proofs::Provided::provided_not))]
 
-use crate::filters::Filter;
+use crate::filters::FilterOn;
 use crate::shown_values::{done, outcome};
 use cf_base::{AuxRecord, CallError, Notes, Operation, WaitId};
-use cf_disk::Disk;
 use cf_filter_calls::{cancel, execute_with, tick};
 use cf_provider::{Outcome, Provider};
+use cf_volume_ground::Ground;
 
-impl<D: Disk> Filter<D> {
+impl<G: Ground> FilterOn<G> {
     ghost use Rattle.std.specs.Prelude.{◌≡◌};
     ghost use Rattle.cf_provider.specs.Acting.{shown_of};
     ghost use Rattle.cf_filter.specs.Calling.{noted, shows_done};
@@ -26,7 +26,7 @@ impl<D: Disk> Filter<D> {
         p: &mut P,
         notes: &mut Notes,
     ) -> Result<(), CallError>
-        ensures does { Provides D.state P.answers Any shows_done (cancel wait) p.old (noted notes.old self.old) result p.new (noted notes.new self.new) }
+        ensures does { Provides G.state P.answers Any shows_done (cancel wait) p.old (noted notes.old self.old) result p.new (noted notes.new self.new) }
         ensures keeps { self.new.desk.notes ≡ self.old.desk.notes }
     {
         self.begin(notes)?;
@@ -42,7 +42,7 @@ impl<D: Disk> Filter<D> {
         p: &mut P,
         notes: &mut Notes,
     ) -> Result<(), CallError>
-        ensures does { Provides D.state P.answers Any shows_done (tick ticks) p.old (noted notes.old self.old) result p.new (noted notes.new self.new) }
+        ensures does { Provides G.state P.answers Any shows_done (tick ticks) p.old (noted notes.old self.old) result p.new (noted notes.new self.new) }
         ensures keeps { self.new.desk.notes ≡ self.old.desk.notes }
     {
         self.begin(notes)?;
@@ -60,7 +60,7 @@ impl<D: Disk> Filter<D> {
         p: &mut P,
         notes: &mut Notes,
     ) -> Result<Outcome, CallError>
-        ensures does { (f : Book → Book) → Provides D.state P.answers (Keeps f records.now) shown_of (execute_with f op.now) p.old (noted notes.old self.old) result p.new (noted notes.new self.new) }
+        ensures does { (f : Book → Book) → Provides G.state P.answers (Keeps f records.now) shown_of (execute_with f op.now) p.old (noted notes.old self.old) result p.new (noted notes.new self.new) }
         ensures keeps { self.new.desk.notes ≡ self.old.desk.notes }
     {
         self.begin(notes)?;
@@ -76,7 +76,7 @@ impl<D: Disk> Filter<D> {
         p: &mut P,
         notes: &mut Notes,
     ) -> Result<Outcome, CallError>
-        ensures does { Provides D.state P.answers Any shown_of (execute op.now) p.old (noted notes.old self.old) result p.new (noted notes.new self.new) }
+        ensures does { Provides G.state P.answers Any shown_of (execute op.now) p.old (noted notes.old self.old) result p.new (noted notes.new self.new) }
         ensures keeps { self.new.desk.notes ≡ self.old.desk.notes }
     {
         self.execute_with(op, &[], p, notes)

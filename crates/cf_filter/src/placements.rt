@@ -4,14 +4,14 @@
 ghost use Rattle.cf_base.specs.declared.answers.Shown.TheVariants as shown;
 ghost use Rattle.cf_item_rules.specs.PlaceholderPlans.{meant};
 
-use crate::filters::Filter;
+use crate::filters::FilterOn;
 use crate::shown_values::{item, number};
 use cf_base::{CallError, Identity, ItemId, Notes, Usn};
-use cf_disk::Disk;
 use cf_filter_calls::{convert, create, revert, unmark, update};
 use cf_item_rules::Creation;
+use cf_volume_ground::Ground;
 
-impl<D: Disk> Filter<D> {
+impl<G: Ground> FilterOn<G> {
     ghost use Rattle.std.specs.Prelude.{◌≡◌};
     ghost use Rattle.cf_filter.specs.Calling.{Calls, noted};
     ghost use Rattle.cf_filter_machine.specs.Sensing.{sense};
@@ -27,7 +27,7 @@ impl<D: Disk> Filter<D> {
         what: &Creation,
         notes: &mut Notes,
     ) -> Result<ItemId, CallError>
-        ensures does { Calls (sense D.state) shown.Item (create path.now (meant what.now)) (noted notes.old self.old) result (noted notes.new self.new) }
+        ensures does { Calls (sense G.state) shown.Item (create path.now (meant what.now)) (noted notes.old self.old) result (noted notes.new self.new) }
         ensures keeps { self.new.desk.notes ≡ self.old.desk.notes }
     {
         self.begin(notes)?;
@@ -43,7 +43,7 @@ impl<D: Disk> Filter<D> {
         identity: &Identity,
         notes: &mut Notes,
     ) -> Result<Usn, CallError>
-        ensures does { Calls (sense D.state) shown.Number (convert path.now identity.now) (noted notes.old self.old) result (noted notes.new self.new) }
+        ensures does { Calls (sense G.state) shown.Number (convert path.now identity.now) (noted notes.old self.old) result (noted notes.new self.new) }
         ensures keeps { self.new.desk.notes ≡ self.old.desk.notes }
     {
         self.begin(notes)?;
@@ -54,7 +54,7 @@ impl<D: Disk> Filter<D> {
     /// A placeholder becomes an item of its own (CfRevertPlaceholder). Gives the item's number. Refused as Broken, as the
     /// look-up, NotPlaceholder, NotPopulated, NotHydrated where a byte is not here, InUse, Exhausted, TableFull, Device.
     pub fn revert(&mut self, path: &str, notes: &mut Notes) -> Result<Usn, CallError>
-        ensures does { Calls (sense D.state) shown.Number (revert path.now) (noted notes.old self.old) result (noted notes.new self.new) }
+        ensures does { Calls (sense G.state) shown.Number (revert path.now) (noted notes.old self.old) result (noted notes.new self.new) }
         ensures keeps { self.new.desk.notes ≡ self.old.desk.notes }
     {
         self.begin(notes)?;
@@ -73,7 +73,7 @@ impl<D: Disk> Filter<D> {
         size: Option<u64>,
         notes: &mut Notes,
     ) -> Result<Usn, CallError>
-        ensures does { Calls (sense D.state) shown.Number (update path.now identity.now size) (noted notes.old self.old) result (noted notes.new self.new) }
+        ensures does { Calls (sense G.state) shown.Number (update path.now identity.now size) (noted notes.old self.old) result (noted notes.new self.new) }
         ensures keeps { self.new.desk.notes ≡ self.old.desk.notes }
     {
         self.begin(notes)?;
@@ -84,7 +84,7 @@ impl<D: Disk> Filter<D> {
     /// A placeholder is no longer in sync (CfSetInSyncState). Gives the item's number. Refused as Broken, as the look-up,
     /// NotPlaceholder, Exhausted, Device.
     pub fn clear_in_sync(&mut self, path: &str, notes: &mut Notes) -> Result<Usn, CallError>
-        ensures does { Calls (sense D.state) shown.Number (unmark path.now) (noted notes.old self.old) result (noted notes.new self.new) }
+        ensures does { Calls (sense G.state) shown.Number (unmark path.now) (noted notes.old self.old) result (noted notes.new self.new) }
         ensures keeps { self.new.desk.notes ≡ self.old.desk.notes }
     {
         self.begin(notes)?;

@@ -3,14 +3,14 @@
 ghost use Rattle.std.specs.Prelude.{◌≡◌};
 ghost use Rattle.cf_model.specs.Arrows.{is_device};
 
-use crate::filters::Filter;
+use crate::filters::FilterOn;
 use crate::paths::spell_paths;
 use crate::shown_values::outcome;
 use cf_base::{Ask, AuxRecord, CallError, Code, Key, Notice, Operation, OutOfMemory, SeenPath};
-use cf_disk::Disk;
 use cf_filter_calls::execute_with;
 use cf_provider::{Outcome, Port};
 use cf_table::Rows;
+use cf_volume_ground::Ground;
 
 fn is_device(code: Code) -> bool
     ensures { result ≡ is_device code }
@@ -21,7 +21,7 @@ fn is_device(code: Code) -> bool
     }
 }
 
-impl<D: Disk> Filter<D> {
+impl<G: Ground> FilterOn<G> {
     ghost use Rattle.std.specs.Prelude.{◌∷◌, ◌++◌, [], false, true, List, IfNone, IfSome, OnErr, OnOk};
     ghost use Rattle.cf_base.specs.declared.items.SeenPath.{SeenPath};
     ghost use Rattle.cf_base.specs.declared.waits.Ask.{Ask};
@@ -80,7 +80,7 @@ impl<D: Disk> Filter<D> {
         op: &Operation,
         records: &[AuxRecord],
     ) -> Result<Outcome, CallError>
-        ensures { (seen : List SeenPath) → Spells seen records.now → Executes (Goes D.state) seen op.now self.old result self.new }
+        ensures { (seen : List SeenPath) → Spells seen records.now → Executes (Goes G.state) seen op.now self.old result self.new }
     {
         if self.is_broken() {
             return Err(CallError::No(Code::Broken));
@@ -108,11 +108,11 @@ impl<D: Disk> Filter<D> {
     }
 }
 
-impl<D: Disk> Port for Filter<D> {
+impl<G: Ground> Port for FilterOn<G> {
     ghost use Rattle.cf_filter.specs.Porting.{Goes, sight_of};
     ghost use Rattle.cf_filter.specs.PortLaws.{goes_further, goes_nowhere};
 
-    ghost goes = { Goes D.state };
+    ghost goes = { Goes G.state };
 
     ghost sight = { sight_of };
 
@@ -147,7 +147,7 @@ impl<D: Disk> Port for Filter<D> {
         self.machine.volume.records()
     }
 
-    ghost stays = { goes_nowhere D.state };
+    ghost stays = { goes_nowhere G.state };
 
-    ghost goes_on = { goes_further D.state };
+    ghost goes_on = { goes_further G.state };
 }

@@ -1,12 +1,12 @@
 //! What others read of a filter.
 
-use crate::filters::Filter;
+use crate::filters::FilterOn;
 use cf_base::{Ask, ItemId, Key, Policy};
-use cf_disk::Disk;
 use cf_table::Rows;
-use cf_volume::Volume;
+use cf_volume::VolumeOn;
+use cf_volume_ground::Ground;
 
-impl<D: Disk> Filter<D> {
+impl<G: Ground> FilterOn<G> {
     ghost use Rattle.std.specs.Prelude.{◌≡◌, ◌≤◌, ◌-◌, ◌==◌, ◌||◌};
     ghost use Rattle.std.specs.List.{list_any};
     ghost use Rattle.cf_model.specs.Numbers.{most};
@@ -15,7 +15,7 @@ impl<D: Disk> Filter<D> {
     ghost use Rattle.cf_waits.specs.Told.{is_busy, is_hydrating, is_listing};
 
     /// The volume.
-    pub fn volume(&self) -> &Volume<D>
+    pub fn volume(&self) -> &VolumeOn<G>
         ensures disk { result.now.disk ≡ self.now.disk }
         ensures known { result.now.known ≡ self.now.known }
     {

@@ -2,14 +2,14 @@
 #![tactic(auto, using(crate::proofs::Provided::provided_not))]
 
 use crate::answers::Waited;
-use crate::filters::Filter;
+use crate::filters::FilterOn;
 use crate::shown_values::waited;
 use cf_base::{CallError, Handle, Notes, Span};
-use cf_disk::Disk;
 use cf_filter_calls::{dehydrate, get, hydrate, list, read};
 use cf_provider::Provider;
+use cf_volume_ground::Ground;
 
-impl<D: Disk> Filter<D> {
+impl<G: Ground> FilterOn<G> {
     ghost use Rattle.std.specs.Prelude.{◌≡◌};
     ghost use Rattle.cf_filter.specs.Calling.{noted};
     ghost use Rattle.cf_filter.specs.Draining.{Provides};
@@ -27,7 +27,7 @@ impl<D: Disk> Filter<D> {
         p: &mut P,
         notes: &mut Notes,
     ) -> Result<Waited, CallError>
-        ensures does { Provides D.state P.answers Any shows_waited (read handle span) p.old (noted notes.old self.old) result p.new (noted notes.new self.new) }
+        ensures does { Provides G.state P.answers Any shows_waited (read handle span) p.old (noted notes.old self.old) result p.new (noted notes.new self.new) }
         ensures keeps { self.new.desk.notes ≡ self.old.desk.notes }
     {
         self.begin(notes)?;
@@ -44,7 +44,7 @@ impl<D: Disk> Filter<D> {
         p: &mut P,
         notes: &mut Notes,
     ) -> Result<Waited, CallError>
-        ensures does { Provides D.state P.answers Any shows_waited (get path.now span) p.old (noted notes.old self.old) result p.new (noted notes.new self.new) }
+        ensures does { Provides G.state P.answers Any shows_waited (get path.now span) p.old (noted notes.old self.old) result p.new (noted notes.new self.new) }
         ensures keeps { self.new.desk.notes ≡ self.old.desk.notes }
     {
         self.begin(notes)?;
@@ -60,7 +60,7 @@ impl<D: Disk> Filter<D> {
         p: &mut P,
         notes: &mut Notes,
     ) -> Result<Waited, CallError>
-        ensures does { Provides D.state P.answers Any shows_waited (list path.now) p.old (noted notes.old self.old) result p.new (noted notes.new self.new) }
+        ensures does { Provides G.state P.answers Any shows_waited (list path.now) p.old (noted notes.old self.old) result p.new (noted notes.new self.new) }
         ensures keeps { self.new.desk.notes ≡ self.old.desk.notes }
     {
         self.begin(notes)?;
@@ -77,7 +77,7 @@ impl<D: Disk> Filter<D> {
         p: &mut P,
         notes: &mut Notes,
     ) -> Result<Waited, CallError>
-        ensures does { Provides D.state P.answers Any shows_waited (hydrate path.now) p.old (noted notes.old self.old) result p.new (noted notes.new self.new) }
+        ensures does { Provides G.state P.answers Any shows_waited (hydrate path.now) p.old (noted notes.old self.old) result p.new (noted notes.new self.new) }
         ensures keeps { self.new.desk.notes ≡ self.old.desk.notes }
     {
         self.begin(notes)?;
@@ -95,7 +95,7 @@ impl<D: Disk> Filter<D> {
         p: &mut P,
         notes: &mut Notes,
     ) -> Result<Waited, CallError>
-        ensures does { Provides D.state P.answers Any shows_waited (dehydrate path.now range) p.old (noted notes.old self.old) result p.new (noted notes.new self.new) }
+        ensures does { Provides G.state P.answers Any shows_waited (dehydrate path.now range) p.old (noted notes.old self.old) result p.new (noted notes.new self.new) }
         ensures keeps { self.new.desk.notes ≡ self.old.desk.notes }
     {
         self.begin(notes)?;

@@ -9,11 +9,11 @@ ghost use Rattle.cf_model.specs.State.{Filter as state};
 ghost use Rattle.cf_filter_steps.specs.Answering.{Answers};
 ghost use Rattle.cf_engine_host.specs.BookSteps.{why_full, with_book_of};
 
-use crate::filters::Filter;
+use crate::filters::FilterOn;
 use crate::shown_values::Told;
 use cf_base::{CallError, Code, OutOfMemory};
-use cf_disk::Disk;
-use cf_filter_machine::Machine;
+use cf_filter_machine::MachineOn;
+use cf_volume_ground::Ground;
 
 // Whether there was room, by what the volume answered.
 fn has_room(put: Result<(), CallError>) -> Result<bool, OutOfMemory>
@@ -27,15 +27,15 @@ fn has_room(put: Result<(), CallError>) -> Result<bool, OutOfMemory>
 }
 
 /// Puts an auxiliary record, or takes the one with the key out. False where the table has no room for it; then nothing is changed.
-pub(crate) fn put_aux<D: Disk>(
-    machine: &mut Machine<D>,
+pub(crate) fn put_aux<G: Ground>(
+    machine: &mut MachineOn<G>,
     key: &[u8],
     value: Option<&[u8]>,
 ) -> Result<bool, OutOfMemory>
     requires key { length key.now ≤ 255 }
     requires value { (b : List ℕ) → option_copied value ≡ Some b → length b ≤ 65535 }
-    ensures does { (f : Book → Book) → Answers (sense D.state) (PutsRecord key.now (option_copied value.entry) f) (attempt (why_full f) (noted (with_book_of f))) machine.old (aux_outcome result) machine.new }
-    ensures same { (f : Book → Book) (s : state) → Stands D.state machine.old s → PutsRecord key.now (option_copied value.entry) f s → IfOk result (λ put. put ≡ false → machine.new ≡ machine.old) }
+    ensures does { (f : Book → Book) → Answers (sense G.state) (PutsRecord key.now (option_copied value.entry) f) (attempt (why_full f) (noted (with_book_of f))) machine.old (aux_outcome result) machine.new }
+    ensures same { (f : Book → Book) (s : state) → Stands G.state machine.old s → PutsRecord key.now (option_copied value.entry) f s → IfOk result (λ put. put ≡ false → machine.new ≡ machine.old) }
 {
     let put = machine.volume.aux_put(key, value);
     has_room(put)
@@ -51,7 +51,7 @@ fn told(put: Result<bool, OutOfMemory>) -> Told<()>
     }
 }
 
-impl<D: Disk> Filter<D> {
+impl<G: Ground> FilterOn<G> {
     ghost use Rattle.cf_filter.specs.Recording.{Attempts};
 
     /// Puts an auxiliary record of the volume in place of the one with its key, or takes the one with the key out where there
@@ -61,7 +61,7 @@ impl<D: Disk> Filter<D> {
     pub fn aux_put(&mut self, key: &[u8], value: Option<&[u8]>) -> Result<(), CallError>
         requires key { length key.now ≤ 255 }
         requires value { (b : List ℕ) → option_copied value ≡ Some b → length b ≤ 65535 }
-        ensures { (f : Book → Book) → Attempts (sense D.state) (PutsRecord key.now (option_copied value.entry) f) (why_full f) (noted (with_book_of f)) self.old result self.new }
+        ensures { (f : Book → Book) → Attempts (sense G.state) (PutsRecord key.now (option_copied value.entry) f) (why_full f) (noted (with_book_of f)) self.old result self.new }
     {
         self.check()?;
         let first = put_aux(&mut self.machine, key, value);

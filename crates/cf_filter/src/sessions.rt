@@ -3,12 +3,12 @@
 
 ghost use Rattle.std.specs.Prelude.{◌≡◌, false, true, OnErr, OnOk};
 
-use crate::filters::Filter;
+use crate::filters::FilterOn;
 use crate::shown_values::Told;
 use cf_base::{CallError, Code, Notes};
-use cf_disk::Disk;
+use cf_volume_ground::Ground;
 
-impl<D: Disk> Filter<D> {
+impl<G: Ground> FilterOn<G> {
     ghost use Rattle.std.specs.Prelude.{IfErr};
     ghost use Rattle.cf_base.specs.declared.codes.Code.TheVariants as code;
     ghost use Rattle.cf_base.specs.declared.codes.CallError.TheVariants.{No};

@@ -3,13 +3,13 @@
 
 ghost use Rattle.cf_base.specs.declared.answers.Shown.TheVariants as shown;
 
-use crate::filters::Filter;
+use crate::filters::FilterOn;
 use crate::shown_values::{count, done, handle};
 use cf_base::{CallError, Handle, Mode, Notes, Policy};
-use cf_disk::Disk;
 use cf_filter_calls::{connect, flush, open_file, set_policy};
+use cf_volume_ground::Ground;
 
-impl<D: Disk> Filter<D> {
+impl<G: Ground> FilterOn<G> {
     ghost use Rattle.std.specs.Prelude.{◌≡◌};
     ghost use Rattle.cf_filter.specs.Calling.{Calls, noted, shows_done};
     ghost use Rattle.cf_filter_machine.specs.Sensing.{sense};
@@ -20,7 +20,7 @@ impl<D: Disk> Filter<D> {
     /// InUse while a handle is open or a wait is live, as NotPopulated where it lists all directories and the entries of
     /// one are not known.
     pub fn set_policy(&mut self, mode: Mode, policy: &Policy) -> Result<(), CallError>
-        ensures { Calls (sense D.state) shows_done (set_policy mode policy.now) self.old result self.new }
+        ensures { Calls (sense G.state) shows_done (set_policy mode policy.now) self.old result self.new }
     {
         self.check()?;
         let told = set_policy(&mut self.machine, mode, policy);
@@ -30,7 +30,7 @@ impl<D: Disk> Filter<D> {
     /// A provider is there from now on (CfConnectSyncRoot), or none. Without one all waits end, and all asks. Refused as
     /// Broken.
     pub fn connect(&mut self, on: bool, notes: &mut Notes) -> Result<(), CallError>
-        ensures does { Calls (sense D.state) shows_done (connect on) (noted notes.old self.old) result (noted notes.new self.new) }
+        ensures does { Calls (sense G.state) shows_done (connect on) (noted notes.old self.old) result (noted notes.new self.new) }
         ensures keeps { self.new.desk.notes ≡ self.old.desk.notes }
     {
         self.begin(notes)?;
@@ -40,7 +40,7 @@ impl<D: Disk> Filter<D> {
 
     /// Opens the file at a path. Refused as Broken, as the look-up, IsDirectory, TooManyHandles, Exhausted.
     pub fn open_file(&mut self, path: &str) -> Result<Handle, CallError>
-        ensures { Calls (sense D.state) shown.Opened (open_file path.now) self.old result self.new }
+        ensures { Calls (sense G.state) shown.Opened (open_file path.now) self.old result self.new }
     {
         self.check()?;
         let told = open_file(&mut self.machine, path);
@@ -49,7 +49,7 @@ impl<D: Disk> Filter<D> {
 
     /// Makes all changes durable, and gives how many there are. Refused as Broken, Device.
     pub fn flush(&mut self) -> Result<u64, CallError>
-        ensures { Calls (sense D.state) shown.Count flush self.old result self.new }
+        ensures { Calls (sense G.state) shown.Count flush self.old result self.new }
     {
         self.check()?;
         let told = flush(&mut self.machine);

@@ -1,21 +1,21 @@
 //! A filter as the steps of which calls are made, for an engine that makes some of its own.
 
-use crate::filters::Filter;
+use crate::filters::FilterOn;
 use cf_ask_rule::Wait;
 use cf_base::{
     Ask, AuxRecord, Blob, CallError, Cause, Change, Code, End, Handle, ItemId, Key, OutOfMemory,
     Policy, Span, Usn, WaitId,
 };
-use cf_disk::Disk;
 use cf_filter_steps::{Need, Room, Steps};
 use cf_table::Rows;
+use cf_volume_ground::Ground;
 use cf_waits::{Moves, Requests, Step};
 use std::alloc::Global;
 
-impl<D: Disk> Steps for Filter<D> {
+impl<G: Ground> Steps for FilterOn<G> {
     ghost use Rattle.cf_filter_machine.specs.Sensing.{sense, waits_known};
 
-    ghost sense = { sense D.state };
+    ghost sense = { sense G.state };
 
     ghost table = { λ f. f.known.table };
 
@@ -171,5 +171,5 @@ impl<D: Disk> Steps for Filter<D> {
         self.machine.tell_asks(cancelled, asks)
     }
 
-    ghost waits = { waits_known D.state };
+    ghost waits = { waits_known G.state };
 }

@@ -3,14 +3,14 @@
 
 ghost use Rattle.cf_base.specs.declared.answers.Shown.TheVariants as shown;
 
-use crate::filters::Filter;
+use crate::filters::FilterOn;
 use crate::shown_values::{done, number};
 use cf_base::{CallError, Handle, Notes, Usn};
-use cf_disk::Disk;
 use cf_filter_calls::{close, keep_full, set_in_sync, set_size, write};
 use cf_provider::Provider;
+use cf_volume_ground::Ground;
 
-impl<D: Disk> Filter<D> {
+impl<G: Ground> FilterOn<G> {
     ghost use Rattle.std.specs.Prelude.{◌≡◌};
     ghost use Rattle.cf_filter.specs.Calling.{noted, shows_done};
     ghost use Rattle.cf_filter.specs.Draining.{Provides};
@@ -28,7 +28,7 @@ impl<D: Disk> Filter<D> {
         p: &mut P,
         notes: &mut Notes,
     ) -> Result<(), CallError>
-        ensures does { Provides D.state P.answers Any shows_done (write handle at bytes.now) p.old (noted notes.old self.old) result p.new (noted notes.new self.new) }
+        ensures does { Provides G.state P.answers Any shows_done (write handle at bytes.now) p.old (noted notes.old self.old) result p.new (noted notes.new self.new) }
         ensures keeps { self.new.desk.notes ≡ self.old.desk.notes }
     {
         self.begin(notes)?;
@@ -45,7 +45,7 @@ impl<D: Disk> Filter<D> {
         p: &mut P,
         notes: &mut Notes,
     ) -> Result<(), CallError>
-        ensures does { Provides D.state P.answers Any shows_done (set_size handle size) p.old (noted notes.old self.old) result p.new (noted notes.new self.new) }
+        ensures does { Provides G.state P.answers Any shows_done (set_size handle size) p.old (noted notes.old self.old) result p.new (noted notes.new self.new) }
         ensures keeps { self.new.desk.notes ≡ self.old.desk.notes }
     {
         self.begin(notes)?;
@@ -61,7 +61,7 @@ impl<D: Disk> Filter<D> {
         p: &mut P,
         notes: &mut Notes,
     ) -> Result<(), CallError>
-        ensures does { Provides D.state P.answers Any shows_done (close handle) p.old (noted notes.old self.old) result p.new (noted notes.new self.new) }
+        ensures does { Provides G.state P.answers Any shows_done (close handle) p.old (noted notes.old self.old) result p.new (noted notes.new self.new) }
         ensures keeps { self.new.desk.notes ≡ self.old.desk.notes }
     {
         self.begin(notes)?;
@@ -79,7 +79,7 @@ impl<D: Disk> Filter<D> {
         p: &mut P,
         notes: &mut Notes,
     ) -> Result<Usn, CallError>
-        ensures does { Provides D.state P.answers Any shown.Number (mark path.now given) p.old (noted notes.old self.old) result p.new (noted notes.new self.new) }
+        ensures does { Provides G.state P.answers Any shown.Number (mark path.now given) p.old (noted notes.old self.old) result p.new (noted notes.new self.new) }
         ensures keeps { self.new.desk.notes ≡ self.old.desk.notes }
     {
         self.begin(notes)?;
@@ -97,7 +97,7 @@ impl<D: Disk> Filter<D> {
         p: &mut P,
         notes: &mut Notes,
     ) -> Result<(), CallError>
-        ensures does { Provides D.state P.answers Any shows_done (keep_full path.now on) p.old (noted notes.old self.old) result p.new (noted notes.new self.new) }
+        ensures does { Provides G.state P.answers Any shows_done (keep_full path.now on) p.old (noted notes.old self.old) result p.new (noted notes.new self.new) }
         ensures keeps { self.new.desk.notes ≡ self.old.desk.notes }
     {
         self.begin(notes)?;

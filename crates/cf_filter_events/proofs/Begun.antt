@@ -8,7 +8,7 @@ use Rattle.cf_filter_events.specs.Faulted.{Faults, local_by}
 use Rattle.cf_filter_events.specs.Meaning.{IsBegun, IsDiskOf, IsOn, OnBy}
 use Rattle.cf_filter_events.specs.Pasts.{Past}
 use Rattle.cf_filter_events.specs.Stepped.{SteppedTo, Steps}
-use Rattle.cf_filter_events.specs.declared.places.Running.{Running as Run}
+use Rattle.cf_filter_events.specs.declared.places.RunningOn.{RunningOn as Run}
 use Rattle.cf_filter_events.proofs.Counted.{begun_counts, known_same, known_steps, local_steps}
 use Rattle.cf_filter_events.proofs.EventFaults.{begun_faults}
 use Rattle.cf_filter_events.proofs.Finished.{broken_step}

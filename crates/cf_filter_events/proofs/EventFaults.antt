@@ -9,7 +9,7 @@ use Rattle.cf_filter_events.specs.Meaning.{Is, IsBegun, IsOff, IsOn}
 use Rattle.cf_filter_events.specs.Pasts.{Past}
 use Rattle.cf_filter_events.specs.declared.places.Acting.TheVariants as acting
 use Rattle.cf_filter_events.specs.declared.places.Cut.{Cut}
-use Rattle.cf_filter_events.specs.declared.places.Running.{Running as Run}
+use Rattle.cf_filter_events.specs.declared.places.RunningOn.{RunningOn as Run}
 use Rattle.cf_filter_events.proofs.CallFaults.{rose_as, rose_same}
 use Rattle.cf_filter_events.proofs.Wholes.{on_holds}
 use Rattle.cf_base.specs.declared.answers.Answer.{Answer}

@@ -4,7 +4,7 @@ use Rattle.std.specs.Prelude.{Ok, Option, Some, ◌∷◌, not}
 use Rattle.cf_filter_events.specs.Answered.{answer_with}
 use Rattle.cf_filter_events.specs.Actors.{Acts, IsActor, hushed}
 use Rattle.cf_filter_events.specs.Meaning.{Is, IsNewest, IsOff, IsOn, IsDiskOf, OnBy}
-use Rattle.cf_filter_events.specs.declared.places.Running.{Running as Run}
+use Rattle.cf_filter_events.specs.declared.places.RunningOn.{RunningOn as Run}
 use Rattle.cf_filter_events.specs.Pasts.{Gains, Past, StandsFor}
 use Rattle.cf_filter_events.specs.Stepped.{Steps, StepsOver}
 use Rattle.cf_filter_events.specs.declared.places.Acting.TheVariants as acting

@@ -3,7 +3,7 @@ use Rattle.std.proofs.Common.{◌≡◌, ℕ, ◌+◌, List, [], Bool, true, fal
 use Rattle.std.specs.Prelude.{Option, Result, Ok, Err, not}
 use Rattle.cf_filter_events.specs.Actors.{Acts, IsActor, hushed, is_device_event}
 use Rattle.cf_filter_events.specs.Meaning.{Is, IsOff, IsOn, OnBy}
-use Rattle.cf_filter_events.specs.declared.places.Running.{Running as Run}
+use Rattle.cf_filter_events.specs.declared.places.RunningOn.{RunningOn as Run}
 use Rattle.cf_filter_events.specs.Pasts.{Past, StandsFor}
 use Rattle.cf_filter_events.specs.Stepped.{Bears, KeepsWhole, OpensNewest, Steps, StepsOver, actor_of, whole_of}
 use Rattle.cf_filter_events.specs.declared.places.Acting.{Acting}

@@ -2,7 +2,7 @@
 use Rattle.std.specs.Prelude.{◌≡◌, ◌≤◌, ◌+◌, ℕ, Bool, true, false, List, [], ◌∷◌, Some, take}
 use Rattle.cf_filter_events.specs.Actors.{Acts, hushed}
 use Rattle.cf_filter_events.specs.Pasts.{Past, StandsFor}
-use Rattle.cf_filter_events.specs.declared.places.Running.{Running as Run}
+use Rattle.cf_filter_events.specs.declared.places.RunningOn.{RunningOn as Run}
 use Rattle.cf_filter_events.specs.declared.places.Acting.{Acting}
 use Rattle.cf_filter_events.specs.declared.places.Acting.TheVariants as acting
 use Rattle.cf_filter_events.specs.declared.places.Cut.{Cut}

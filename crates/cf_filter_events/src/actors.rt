@@ -6,9 +6,9 @@ ghost use Rattle.cf_filter_events.specs.Counted.{StepsOn};
 ghost use Rattle.cf_model.specs.Events.{is_of, needs_volume};
 
 use cf_base::{Answer, Event, Mode, OutOfMemory};
-use cf_disk::Disk;
-use cf_filter::Filter;
+use cf_filter::FilterOn;
 use cf_provider::Provider;
+use cf_volume_ground::Ground;
 use std::alloc::Global;
 
 /// What acts beside the filter in the world of a command: the provider of its callbacks, and the events of the mode that are neither
@@ -39,16 +39,16 @@ pub trait Actor: Provider {
 
     /// Does an event of the mode that needs the volume and is no call of an application, and answers it. The actor has begun the event:
     /// the volume is open, and no event met Device. Where memory runs out the event is not answered, and nothing more is said.
-    fn act<D: Disk>(
+    fn act<G: Ground>(
         &mut self,
         alloc: Global,
-        filter: &mut Filter<D>,
+        filter: &mut FilterOn<G>,
         event: &Event,
     ) -> Result<Answer, OutOfMemory>
         requires of { is_of acts.mode event.now ≡ true }
         requires needs { needs_volume event.now ≡ true }
         requires other { is_call event.now ≡ false }
-        ensures { StepsOn acts D.state event.now (record { filter = filter.old; actor = self.old }) result (record { filter = filter.new; actor = self.new }) };
+        ensures { StepsOn acts G.state event.now (record { filter = filter.old; actor = self.old }) result (record { filter = filter.new; actor = self.new }) };
 
     /// It plays the provider of its mode, and what it stands for hangs on its own part of the state alone.
     ghost actor: { IsActor Self.answers acts };

@@ -5,9 +5,9 @@ ghost use Rattle.cf_filter_machine.specs.Telling.{accesses_in, anchors_in, told_
 ghost use Rattle.cf_model.specs.Numbers.{is_no_usn};
 
 use cf_base::{Access, Anchor, AuxRecord, OpenedBook, OutOfMemory, Sequence, Usn};
-use cf_disk::Disk;
 use cf_table::Row;
-use cf_volume::Volume;
+use cf_volume::VolumeOn;
+use cf_volume_ground::Ground;
 use std::alloc::Global;
 
 fn is_no_usn(number: Usn) -> bool
@@ -65,9 +65,9 @@ fn copies(alloc: Global, records: &[AuxRecord]) -> Result<Sequence<AuxRecord>, O
 }
 
 /// The book as it is told of a volume: its records, its clock, and the anchors and last accesses of its rows.
-pub(crate) fn opened_book<D: Disk>(
+pub(crate) fn opened_book<G: Ground>(
     alloc: Global,
-    volume: &Volume<D>,
+    volume: &VolumeOn<G>,
 ) -> Result<OpenedBook, OutOfMemory>
     ensures { IfOk result (λ o. o ≡ told_of volume.now.known) }
 {

@@ -4,15 +4,15 @@ ghost use Rattle.cf_filter_events.specs.Counted.{StepsOn};
 ghost use Rattle.cf_base.specs.declared.events.Event.TheVariants as event;
 
 use crate::actors::Actor;
-use crate::places::Running;
+use crate::places::RunningOn;
 use cf_base::{Answer, Call, OutOfMemory};
-use cf_disk::Disk;
+use cf_volume_ground::Ground;
 use std::alloc::Global;
 
-impl<D: Disk, A: Actor> Running<D, A> {
+impl<G: Ground, A: Actor> RunningOn<G, A> {
     /// Does a call while the volume is open, and answers it.
     pub(crate) fn call(&mut self, alloc: Global, call: &Call) -> Result<Answer, OutOfMemory>
-        ensures { StepsOn A.acts D.state (event.Call call.now) self.old result self.new }
+        ensures { StepsOn A.acts G.state (event.Call call.now) self.old result self.new }
     {
         match call {
             Call::Open { path } => self.open(alloc, path),

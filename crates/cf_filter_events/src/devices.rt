@@ -13,12 +13,13 @@ ghost use Rattle.cf_base.specs.declared.events.Event.TheVariants as event;
 
 use crate::actors::Actor;
 use crate::answers::{plainly, refused};
-use crate::places::{Cut, Running};
+use crate::places::{Cut, RunningOn};
 use cf_base::{Answer, Choice, Code, Shown};
 use cf_disk::Disk;
+use cf_volume_ground::DiskGround;
 use std::alloc::Global;
 
-impl<D: Disk, A: Actor> Running<D, A> {
+impl<D: Disk, A: Actor> RunningOn<DiskGround<D>, A> {
     /// `stop`: at most `calls` more calls of the device pass.
     pub fn stop(&mut self, alloc: Global, calls: u32) -> Answer
         ensures steps { Steps A.acts.mode (IsOn A.acts D.state) (event.Device (device.Stop calls)) self.old (Ok result) self.new }

@@ -10,9 +10,10 @@ ghost use Rattle.cf_model.specs.Events.{is_of, needs_volume};
 
 use crate::actors::Actor;
 use crate::answers::{known, local, refused};
-use crate::places::{Cut, Running};
+use crate::places::{Cut, RunningOn};
 use cf_base::{Answer, Code, EngineEvent, Event, OutOfMemory};
 use cf_disk::Disk;
+use cf_volume_ground::Ground;
 use std::alloc::Global;
 
 fn needs_volume(event: &Event) -> bool
@@ -28,15 +29,15 @@ fn needs_volume(event: &Event) -> bool
     }
 }
 
-impl<D: Disk, A: Actor> Running<D, A> {
+impl<G: Ground, A: Actor> RunningOn<G, A> {
     /// Does an event while the volume is open, and answers it. After an event that met Device what needs the volume is refused as
     /// Broken.
     pub fn act(&mut self, alloc: Global, event: &Event) -> Result<Answer, OutOfMemory>
         requires of { is_of A.acts.mode event.now ≡ true }
         requires other { is_device_event event.now ≡ false }
-        ensures steps { Steps A.acts.mode (IsOn A.acts D.state) event.now self.old result self.new }
-        ensures counts { Counts (IsOn A.acts D.state) self.old result (D.state self.old.filter.disk) (D.state self.new.filter.disk) }
-        ensures faults { Faults (IsOn A.acts D.state) self.old result (A.acts.remote self.old.actor) (A.acts.remote self.new.actor) }
+        ensures steps { Steps A.acts.mode (IsOn A.acts G.state) event.now self.old result self.new }
+        ensures counts { Counts (IsOn A.acts G.state) self.old result (G.state self.old.filter.disk) (G.state self.new.filter.disk) }
+        ensures faults { Faults (IsOn A.acts G.state) self.old result (A.acts.remote self.old.actor) (A.acts.remote self.new.actor) }
     {
         if !needs_volume(event) {
             let told = self.actor.beside(alloc, event);
@@ -54,7 +55,7 @@ impl<D: Disk, A: Actor> Running<D, A> {
     fn act_begun(&mut self, alloc: Global, event: &Event) -> Result<Answer, OutOfMemory>
         requires of { is_of A.acts.mode event.now ≡ true }
         requires needs { needs_volume event.now ≡ true }
-        ensures { StepsOn A.acts D.state event.now self.old result self.new }
+        ensures { StepsOn A.acts G.state event.now self.old result self.new }
     {
         match event {
             Event::Call(call) => self.call(alloc, call),

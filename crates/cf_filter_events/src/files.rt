@@ -8,10 +8,10 @@ ghost use Rattle.cf_model.specs.Missing.{span_of};
 
 use crate::actors::Actor;
 use crate::answers::answered;
-use crate::places::Running;
+use crate::places::RunningOn;
 use crate::results::{done, waited};
 use cf_base::{Answer, Blob, Handle, Notes, OutOfMemory, Span, Text};
-use cf_disk::Disk;
+use cf_volume_ground::Ground;
 use std::alloc::Global;
 
 fn span_of(offset: u32, len: u32) -> Span
@@ -23,10 +23,10 @@ fn span_of(offset: u32, len: u32) -> Span
     }
 }
 
-impl<D: Disk, A: Actor> Running<D, A> {
+impl<G: Ground, A: Actor> RunningOn<G, A> {
     /// `close`
     pub(crate) fn close(&mut self, alloc: Global, handle: Handle) -> Result<Answer, OutOfMemory>
-        ensures { StepsOn A.acts D.state (event.Call (call.Close handle)) self.old result self.new }
+        ensures { StepsOn A.acts G.state (event.Call (call.Close handle)) self.old result self.new }
     {
         let mut notes = Notes::new(alloc);
         let told = self.filter.close(handle, &mut self.actor, &mut notes);
@@ -41,7 +41,7 @@ impl<D: Disk, A: Actor> Running<D, A> {
         offset: u32,
         len: u32,
     ) -> Result<Answer, OutOfMemory>
-        ensures { StepsOn A.acts D.state (event.Call (call.Read handle offset len)) self.old result self.new }
+        ensures { StepsOn A.acts G.state (event.Call (call.Read handle offset len)) self.old result self.new }
     {
         let mut notes = Notes::new(alloc);
         let told = self
@@ -58,7 +58,7 @@ impl<D: Disk, A: Actor> Running<D, A> {
         offset: u32,
         len: u32,
     ) -> Result<Answer, OutOfMemory>
-        ensures { StepsOn A.acts D.state (event.Call (call.Get path.now offset len)) self.old result self.new }
+        ensures { StepsOn A.acts G.state (event.Call (call.Get path.now offset len)) self.old result self.new }
     {
         let mut notes = Notes::new(alloc);
         let told = self.filter.get(
@@ -78,7 +78,7 @@ impl<D: Disk, A: Actor> Running<D, A> {
         offset: u32,
         bytes: &Blob,
     ) -> Result<Answer, OutOfMemory>
-        ensures { StepsOn A.acts D.state (event.Call (call.Write handle offset bytes.now)) self.old result self.new }
+        ensures { StepsOn A.acts G.state (event.Call (call.Write handle offset bytes.now)) self.old result self.new }
     {
         let mut notes = Notes::new(alloc);
         let told = self.filter.write(
@@ -98,7 +98,7 @@ impl<D: Disk, A: Actor> Running<D, A> {
         handle: Handle,
         size: u32,
     ) -> Result<Answer, OutOfMemory>
-        ensures { StepsOn A.acts D.state (event.Call (call.Size handle size)) self.old result self.new }
+        ensures { StepsOn A.acts G.state (event.Call (call.Size handle size)) self.old result self.new }
     {
         let mut notes = Notes::new(alloc);
         let told = self

@@ -6,17 +6,17 @@ ghost use Rattle.cf_base.specs.declared.events.Event.TheVariants as event;
 
 use crate::actors::Actor;
 use crate::answers::answered;
-use crate::places::Running;
+use crate::places::RunningOn;
 use crate::results::{done, item};
 use cf_base::{Answer, Notes, OutOfMemory, Pin, Reach, Text};
-use cf_disk::Disk;
 use cf_item_rules::Creation;
+use cf_volume_ground::Ground;
 use std::alloc::Global;
 
-impl<D: Disk, A: Actor> Running<D, A> {
+impl<G: Ground, A: Actor> RunningOn<G, A> {
     /// `create`
     pub(crate) fn create(&mut self, alloc: Global, path: &Text) -> Result<Answer, OutOfMemory>
-        ensures { StepsOn A.acts D.state (event.Call (call.Create path.now)) self.old result self.new }
+        ensures { StepsOn A.acts G.state (event.Call (call.Create path.now)) self.old result self.new }
     {
         let mut notes = Notes::new(alloc);
         let told = self
@@ -27,7 +27,7 @@ impl<D: Disk, A: Actor> Running<D, A> {
 
     /// `mkdir`
     pub(crate) fn mkdir(&mut self, alloc: Global, path: &Text) -> Result<Answer, OutOfMemory>
-        ensures { StepsOn A.acts D.state (event.Call (call.Mkdir path.now)) self.old result self.new }
+        ensures { StepsOn A.acts G.state (event.Call (call.Mkdir path.now)) self.old result self.new }
     {
         let mut notes = Notes::new(alloc);
         let told = self
@@ -38,7 +38,7 @@ impl<D: Disk, A: Actor> Running<D, A> {
 
     /// `delete`
     pub(crate) fn delete(&mut self, alloc: Global, path: &Text) -> Result<Answer, OutOfMemory>
-        ensures { StepsOn A.acts D.state (event.Call (call.Delete path.now)) self.old result self.new }
+        ensures { StepsOn A.acts G.state (event.Call (call.Delete path.now)) self.old result self.new }
     {
         let mut notes = Notes::new(alloc);
         let mode = self.actor.mode();
@@ -53,7 +53,7 @@ impl<D: Disk, A: Actor> Running<D, A> {
         from: &Text,
         to: &Text,
     ) -> Result<Answer, OutOfMemory>
-        ensures { StepsOn A.acts D.state (event.Call (call.Rename from.now to.now)) self.old result self.new }
+        ensures { StepsOn A.acts G.state (event.Call (call.Rename from.now to.now)) self.old result self.new }
     {
         let mut notes = Notes::new(alloc);
         let told = self.filter.rename(from.as_str(), to.as_str(), &mut notes);
@@ -68,7 +68,7 @@ impl<D: Disk, A: Actor> Running<D, A> {
         pin: Pin,
         reach: Reach,
     ) -> Result<Answer, OutOfMemory>
-        ensures { StepsOn A.acts D.state (event.Call (call.Pin path.now pin reach)) self.old result self.new }
+        ensures { StepsOn A.acts G.state (event.Call (call.Pin path.now pin reach)) self.old result self.new }
     {
         let mut notes = Notes::new(alloc);
         let told = self.filter.pin(path.as_str(), pin, reach, &mut notes);

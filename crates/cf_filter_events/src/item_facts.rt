@@ -6,16 +6,16 @@ ghost use Rattle.cf_base.specs.declared.events.Event.TheVariants as event;
 
 use crate::actors::Actor;
 use crate::answers::answered;
-use crate::places::Running;
+use crate::places::RunningOn;
 use crate::results::{blocks, info, runs, used};
 use cf_base::{Answer, Class, Notes, OutOfMemory, Text};
-use cf_disk::Disk;
+use cf_volume_ground::Ground;
 use std::alloc::Global;
 
-impl<D: Disk, A: Actor> Running<D, A> {
+impl<G: Ground, A: Actor> RunningOn<G, A> {
     /// `info`
     pub(crate) fn info(&mut self, alloc: Global, path: &Text) -> Result<Answer, OutOfMemory>
-        ensures { StepsOn A.acts D.state (event.Call (call.Info path.now)) self.old result self.new }
+        ensures { StepsOn A.acts G.state (event.Call (call.Info path.now)) self.old result self.new }
     {
         let told = self.filter.info(path.as_str());
         answered(info(told), Notes::new(alloc))
@@ -28,7 +28,7 @@ impl<D: Disk, A: Actor> Running<D, A> {
         path: &Text,
         class: Class,
     ) -> Result<Answer, OutOfMemory>
-        ensures { StepsOn A.acts D.state (event.Call (call.Ranges path.now class)) self.old result self.new }
+        ensures { StepsOn A.acts G.state (event.Call (call.Ranges path.now class)) self.old result self.new }
     {
         let told = self.filter.ranges(path.as_str(), class);
         answered(runs(told), Notes::new(alloc))
@@ -36,7 +36,7 @@ impl<D: Disk, A: Actor> Running<D, A> {
 
     /// `used`
     pub(crate) fn used(&mut self, alloc: Global, path: &Text) -> Result<Answer, OutOfMemory>
-        ensures { StepsOn A.acts D.state (event.Call (call.Used path.now)) self.old result self.new }
+        ensures { StepsOn A.acts G.state (event.Call (call.Used path.now)) self.old result self.new }
     {
         let told = self.filter.used(path.as_str());
         answered(used(told), Notes::new(alloc))
@@ -44,7 +44,7 @@ impl<D: Disk, A: Actor> Running<D, A> {
 
     /// `df`
     pub(crate) fn df(&mut self, alloc: Global) -> Result<Answer, OutOfMemory>
-        ensures { StepsOn A.acts D.state (event.Call call.Df) self.old result self.new }
+        ensures { StepsOn A.acts G.state (event.Call call.Df) self.old result self.new }
     {
         let told = self.filter.df();
         answered(blocks(told), Notes::new(alloc))

@@ -3,7 +3,7 @@
 //!
 //! Contracts say that the world stands for states of the definitions (specs/Meaning): each event is one step of theirs, with that
 //! answer, and whatever a crash leaves of the disk stands for a point that a restart may then open. How an actor stands for its part
-//! of a state it says itself (specs/Actors).
+//! of a state it says itself (specs/Actors). While the volume is open it may stand on any ground (`RunningOn`).
 #![tactic(auto)]
 
 mod actors;
@@ -25,5 +25,5 @@ mod worlds;
 
 pub use actors::Actor;
 pub use answers::{answered, plainly, refused};
-pub use places::{Acting, Cut, Running};
+pub use places::{Acting, Cut, Running, RunningOn};
 pub use results::{count, done, item, number, outcome};

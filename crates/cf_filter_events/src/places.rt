@@ -6,14 +6,18 @@ ghost use Rattle.cf_model.specs.Arrows.{unit};
 
 use cf_base::Policy;
 use cf_disk::Disk;
-use cf_filter::Filter;
+use cf_filter::FilterOn;
+use cf_volume_ground::{DiskGround, Ground};
 
 /// The volume is open under a filter, and an actor beside it.
 #[derive(Drop)]
-pub struct Running<D: Disk, A> {
-    pub filter: Filter<D>,
+pub struct RunningOn<G: Ground, A> {
+    pub filter: FilterOn<G>,
     pub actor: A,
 }
+
+/// The same of a volume on a disk.
+pub type Running<D, A> = RunningOn<DiskGround<D>, A>;
 
 /// The power was cut, and the volume is not yet open again. The policy stands for the next opening.
 #[derive(Drop)]
@@ -39,8 +43,8 @@ impl<D: Disk, A> Acting<D, A> {
         ensures actor { result.1 ≡ actor_of self }
     {
         match self {
-            Acting::On(Running { filter, actor }) => {
-                (Acting::On(Running { filter, actor: () }), actor)
+            Acting::On(RunningOn { filter, actor }) => {
+                (Acting::On(RunningOn { filter, actor: () }), actor)
             }
             Acting::Off(
                 Cut {
@@ -68,7 +72,7 @@ impl<D: Disk> Acting<D, ()> {
         ensures { result ≡ with_actor actor self }
     {
         match self {
-            Acting::On(Running { filter, .. }) => Acting::On(Running { filter, actor }),
+            Acting::On(RunningOn { filter, .. }) => Acting::On(RunningOn { filter, actor }),
             Acting::Off(
                 Cut {
                     disk,

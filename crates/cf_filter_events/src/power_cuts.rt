@@ -21,7 +21,7 @@ ghost use Rattle.cf_model.specs.State.{Filter as model};
 use crate::actors::Actor;
 use crate::answers::{plainly, refused};
 use crate::books::opened_book;
-use crate::places::{Acting, Cut, Running};
+use crate::places::{Acting, Cut, RunningOn};
 use cf_base::{Answer, CallError, Choice, Code, OutOfMemory, Shown};
 use cf_disk::Disk;
 use cf_filter::Filter;
@@ -127,7 +127,7 @@ fn reopened<D: Disk, A: Actor>(
 {
     let told = resumed(alloc, &filter);
     actor.reopen();
-    (Acting::On(Running { filter, actor }), told)
+    (Acting::On(RunningOn { filter, actor }), told)
 }
 
 // How many changes were kept, and the book.

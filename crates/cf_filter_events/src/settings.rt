@@ -6,16 +6,16 @@ ghost use Rattle.cf_base.specs.declared.events.Event.TheVariants as event;
 
 use crate::actors::Actor;
 use crate::answers::answered;
-use crate::places::Running;
+use crate::places::RunningOn;
 use crate::results::{count, done, opened};
 use cf_base::{Answer, Notes, OutOfMemory, Policy, Text};
-use cf_disk::Disk;
+use cf_volume_ground::Ground;
 use std::alloc::Global;
 
-impl<D: Disk, A: Actor> Running<D, A> {
+impl<G: Ground, A: Actor> RunningOn<G, A> {
     /// `open`
     pub(crate) fn open(&mut self, alloc: Global, path: &Text) -> Result<Answer, OutOfMemory>
-        ensures { StepsOn A.acts D.state (event.Call (call.Open path.now)) self.old result self.new }
+        ensures { StepsOn A.acts G.state (event.Call (call.Open path.now)) self.old result self.new }
     {
         let told = self.filter.open_file(path.as_str());
         answered(opened(told), Notes::new(alloc))
@@ -23,7 +23,7 @@ impl<D: Disk, A: Actor> Running<D, A> {
 
     /// `flush`
     pub(crate) fn flush(&mut self, alloc: Global) -> Result<Answer, OutOfMemory>
-        ensures { StepsOn A.acts D.state (event.Call call.Flush) self.old result self.new }
+        ensures { StepsOn A.acts G.state (event.Call call.Flush) self.old result self.new }
     {
         let told = self.filter.flush();
         answered(count(told), Notes::new(alloc))
@@ -35,7 +35,7 @@ impl<D: Disk, A: Actor> Running<D, A> {
         alloc: Global,
         policy: &Policy,
     ) -> Result<Answer, OutOfMemory>
-        ensures { StepsOn A.acts D.state (event.Call (call.Policy policy.now)) self.old result self.new }
+        ensures { StepsOn A.acts G.state (event.Call (call.Policy policy.now)) self.old result self.new }
     {
         let told = self.filter.set_policy(self.actor.mode(), policy);
         answered(done(told), Notes::new(alloc))
@@ -43,7 +43,7 @@ impl<D: Disk, A: Actor> Running<D, A> {
 
     /// `connect` and `disconnect`
     pub(crate) fn connect(&mut self, alloc: Global, on: bool) -> Result<Answer, OutOfMemory>
-        ensures { StepsOn A.acts D.state (event.Call (call.Connect on)) self.old result self.new }
+        ensures { StepsOn A.acts G.state (event.Call (call.Connect on)) self.old result self.new }
     {
         let mut notes = Notes::new(alloc);
         let told = self.filter.connect(on, &mut notes);

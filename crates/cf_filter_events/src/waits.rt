@@ -7,10 +7,10 @@ ghost use Rattle.cf_base.specs.declared.events.Event.TheVariants as event;
 
 use crate::actors::Actor;
 use crate::answers::answered;
-use crate::places::Running;
+use crate::places::RunningOn;
 use crate::results::{done, waited};
 use cf_base::{Answer, Notes, OutOfMemory, Text, WaitId};
-use cf_disk::Disk;
+use cf_volume_ground::Ground;
 use std::alloc::Global;
 
 fn wide(range: Option<(u32, u32)>) -> Option<(u64, u64)>
@@ -22,10 +22,10 @@ fn wide(range: Option<(u32, u32)>) -> Option<(u64, u64)>
     }
 }
 
-impl<D: Disk, A: Actor> Running<D, A> {
+impl<G: Ground, A: Actor> RunningOn<G, A> {
     /// `cancel`
     pub(crate) fn cancel(&mut self, alloc: Global, wait: WaitId) -> Result<Answer, OutOfMemory>
-        ensures { StepsOn A.acts D.state (event.Call (call.Cancel wait)) self.old result self.new }
+        ensures { StepsOn A.acts G.state (event.Call (call.Cancel wait)) self.old result self.new }
     {
         let mut notes = Notes::new(alloc);
         let told = self.filter.cancel(wait, &mut self.actor, &mut notes);
@@ -34,7 +34,7 @@ impl<D: Disk, A: Actor> Running<D, A> {
 
     /// `tick`
     pub(crate) fn tick(&mut self, alloc: Global, ticks: u32) -> Result<Answer, OutOfMemory>
-        ensures { StepsOn A.acts D.state (event.Call (call.Tick ticks)) self.old result self.new }
+        ensures { StepsOn A.acts G.state (event.Call (call.Tick ticks)) self.old result self.new }
     {
         let mut notes = Notes::new(alloc);
         let told = self.filter.tick(ticks, &mut self.actor, &mut notes);
@@ -43,7 +43,7 @@ impl<D: Disk, A: Actor> Running<D, A> {
 
     /// `list`
     pub(crate) fn list(&mut self, alloc: Global, path: &Text) -> Result<Answer, OutOfMemory>
-        ensures { StepsOn A.acts D.state (event.Call (call.List path.now)) self.old result self.new }
+        ensures { StepsOn A.acts G.state (event.Call (call.List path.now)) self.old result self.new }
     {
         let mut notes = Notes::new(alloc);
         let told = self.filter.list(path.as_str(), &mut self.actor, &mut notes);
@@ -52,7 +52,7 @@ impl<D: Disk, A: Actor> Running<D, A> {
 
     /// `hydrate`
     pub(crate) fn hydrate(&mut self, alloc: Global, path: &Text) -> Result<Answer, OutOfMemory>
-        ensures { StepsOn A.acts D.state (event.Call (call.Hydrate path.now)) self.old result self.new }
+        ensures { StepsOn A.acts G.state (event.Call (call.Hydrate path.now)) self.old result self.new }
     {
         let mut notes = Notes::new(alloc);
         let told = self
@@ -68,7 +68,7 @@ impl<D: Disk, A: Actor> Running<D, A> {
         path: &Text,
         range: Option<(u32, u32)>,
     ) -> Result<Answer, OutOfMemory>
-        ensures { StepsOn A.acts D.state (event.Call (call.Dehydrate path.now range)) self.old result self.new }
+        ensures { StepsOn A.acts G.state (event.Call (call.Dehydrate path.now range)) self.old result self.new }
     {
         let mut notes = Notes::new(alloc);
         let told = self
@@ -84,7 +84,7 @@ impl<D: Disk, A: Actor> Running<D, A> {
         path: &Text,
         on: bool,
     ) -> Result<Answer, OutOfMemory>
-        ensures { StepsOn A.acts D.state (event.Call (call.Keep path.now on)) self.old result self.new }
+        ensures { StepsOn A.acts G.state (event.Call (call.Keep path.now on)) self.old result self.new }
     {
         let mut notes = Notes::new(alloc);
         let told = self

@@ -20,7 +20,7 @@ ghost use Rattle.cf_volume.specs.Calls.{IsCause, StopsOnly};
 
 use crate::actors::Actor;
 use crate::answers::plainly;
-use crate::places::{Acting, Cut, Running};
+use crate::places::{Acting, Cut, Running, RunningOn};
 use cf_base::{
     Answer, CallError, DeviceEvent, Event, Hydration, OutOfMemory, Policy, Population, Shown,
 };
@@ -54,7 +54,7 @@ impl<D: Disk, A: Actor> Acting<D, A> {
         ensures cause { IfErr result (λ e. IsCause e.2 (D.state disk) (D.state e.0)) }
     {
         match Filter::format(alloc, disk, first_policy()) {
-            Ok(filter) => Ok(Acting::On(Running { filter, actor })),
+            Ok(filter) => Ok(Acting::On(RunningOn { filter, actor })),
             Err((disk, fail)) => Err((disk, actor, fail)),
         }
     }

@@ -21,9 +21,9 @@ use crate::desks::Desk;
 use crate::entries::entries_of;
 use cf_ask_rule::Wait;
 use cf_base::{Blob, CallError, Cause, End, ItemId, OutOfMemory, Span, WaitKind};
-use cf_disk::Disk;
 use cf_table::{Row, Rows};
-use cf_volume::Volume;
+use cf_volume::VolumeOn;
+use cf_volume_ground::Ground;
 use std::alloc::Global;
 
 /// Whether a wait of this kind that ends so reads, which is an access.
@@ -63,19 +63,19 @@ pub(crate) fn cut_here(row: Option<&Row>, asked: Span) -> Result<Span, OutOfMemo
 }
 
 /// The bytes of a span of a file, all of which are here. It is an access.
-pub(crate) fn read_here<D: Disk>(
-    volume: &mut Volume<D>,
+pub(crate) fn read_here<G: Ground>(
+    volume: &mut VolumeOn<G>,
     item: ItemId,
     span: Span,
 ) -> Result<Blob, CallError>
     requires end { span.start + span.len ≤ 2 ^ 40 }
     requires here { IsHere (row_of volume.old.known.table.rows item) span.start (span.start + span.len) }
-    ensures bytes { (v : model) (i : Item) → At (D.state volume.old.disk) volume.old.known v → item_of v.items item ≡ Some i → IfOk result (λ b. map Some b ≡ slice_range i.held span.start (span.start + span.len)) }
-    ensures ok { (v : model) → At (D.state volume.old.disk) volume.old.known v → OnOk result (At (D.state volume.new.disk) volume.new.known (with_access_to item v)) }
+    ensures bytes { (v : model) (i : Item) → At (G.state volume.old.disk) volume.old.known v → item_of v.items item ≡ Some i → IfOk result (λ b. map Some b ≡ slice_range i.held span.start (span.start + span.len)) }
+    ensures ok { (v : model) → At (G.state volume.old.disk) volume.old.known v → OnOk result (At (G.state volume.new.disk) volume.new.known (with_access_to item v)) }
     ensures only { volume.old.known.broken ≡ false → IfErr result StopsOnly }
-    ensures cause { IfErr result (λ e. IsCause e (D.state volume.old.disk) (D.state volume.new.disk)) }
-    ensures crash { (v : model) → At (D.state volume.old.disk) volume.old.known v → Leaves (D.state volume.old.disk) (D.state volume.new.disk) (StandsLast v) }
-    ensures runs { Runs (D.state volume.old.disk) (D.state volume.new.disk) }
+    ensures cause { IfErr result (λ e. IsCause e (G.state volume.old.disk) (G.state volume.new.disk)) }
+    ensures crash { (v : model) → At (G.state volume.old.disk) volume.old.known v → Leaves (G.state volume.old.disk) (G.state volume.new.disk) (StandsLast v) }
+    ensures runs { Runs (G.state volume.old.disk) (G.state volume.new.disk) }
     ensures stays { IfErr result (λ e. StaysBy e volume.old.known volume.new.known) }
     ensures usable { OnOk result (volume.new.known.broken ≡ false) }
 {

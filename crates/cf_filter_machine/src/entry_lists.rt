@@ -20,8 +20,8 @@ ghost use Rattle.cf_volume.specs.Written.{contents_in};
 use crate::desks::Desk;
 use crate::limits::fits;
 use cf_base::{AuxRecord, CallError, Change, Notice, OutOfMemory, Usn};
-use cf_disk::Disk;
-use cf_volume::{Volume, are_short};
+use cf_volume::{VolumeOn, are_short};
+use cf_volume_ground::Ground;
 
 // Whether a change is one of those of which lists of entries are made.
 fn is_listed(change: &Change) -> bool
@@ -34,14 +34,14 @@ fn is_listed(change: &Change) -> bool
 }
 
 // Puts a change of a list in the volume, and gives its number.
-fn put_entry<D: Disk>(volume: &mut Volume<D>, change: &Change) -> Result<Usn, CallError>
+fn put_entry<G: Ground>(volume: &mut VolumeOn<G>, change: &Change) -> Result<Usn, CallError>
     ensures listed { IfOk result (λ n. is_listed change.now ≡ true) }
-    ensures ok { (v : model) → At (D.state volume.old.disk) volume.old.known v → OnOk result (At (D.state volume.new.disk) volume.new.known (put_change change.now v)) }
-    ensures number { (v : model) → At (D.state volume.old.disk) volume.old.known v → IfOk result (λ n. n ≡ next_number v) }
-    ensures only { (v : model) → At (D.state volume.old.disk) volume.old.known v → why_no_room (change.now ∷ []) v ≡ None → volume.old.known.broken ≡ false → IfErr result StopsOnly }
-    ensures cause { IfErr result (λ e. IsCause e (D.state volume.old.disk) (D.state volume.new.disk)) }
-    ensures crash { (v : model) → At (D.state volume.old.disk) volume.old.known v → Leaves (D.state volume.old.disk) (D.state volume.new.disk) (StandsLast v) }
-    ensures runs { Runs (D.state volume.old.disk) (D.state volume.new.disk) }
+    ensures ok { (v : model) → At (G.state volume.old.disk) volume.old.known v → OnOk result (At (G.state volume.new.disk) volume.new.known (put_change change.now v)) }
+    ensures number { (v : model) → At (G.state volume.old.disk) volume.old.known v → IfOk result (λ n. n ≡ next_number v) }
+    ensures only { (v : model) → At (G.state volume.old.disk) volume.old.known v → why_no_room (change.now ∷ []) v ≡ None → volume.old.known.broken ≡ false → IfErr result StopsOnly }
+    ensures cause { IfErr result (λ e. IsCause e (G.state volume.old.disk) (G.state volume.new.disk)) }
+    ensures crash { (v : model) → At (G.state volume.old.disk) volume.old.known v → Leaves (G.state volume.old.disk) (G.state volume.new.disk) (StandsLast v) }
+    ensures runs { Runs (G.state volume.old.disk) (G.state volume.new.disk) }
     ensures stays { OnErr result (contents_in volume.new.known ≡ contents_in volume.old.known) }
     ensures usable { OnOk result (volume.new.known.broken ≡ false) }
 {
@@ -56,12 +56,12 @@ fn put_entry<D: Disk>(volume: &mut Volume<D>, change: &Change) -> Result<Usn, Ca
 }
 
 // Makes a change of a list that is not its last, and tells it.
-fn enter_one<D: Disk>(
-    volume: &mut Volume<D>,
+fn enter_one<G: Ground>(
+    volume: &mut VolumeOn<G>,
     desk: &mut Desk,
     change: &Change,
 ) -> Result<(), CallError>
-    ensures does { (dir : ItemId) → Enters D.state dir (Coming D.state dir) (λ s. IsReadyEntry dir change.now s.volume) (one_change change.now) (held volume.old desk.old) result (held volume.new desk.new) }
+    ensures does { (dir : ItemId) → Enters G.state dir (Coming G.state dir) (λ s. IsReadyEntry dir change.now s.volume) (one_change change.now) (held volume.old desk.old) result (held volume.new desk.new) }
     ensures same { desk.new.waiting ≡ desk.old.waiting }
 {
     let line = change.copy()?;
@@ -74,12 +74,12 @@ fn enter_one<D: Disk>(
 }
 
 // Makes the changes of a list before its last.
-fn enter_before<D: Disk>(
-    volume: &mut Volume<D>,
+fn enter_before<G: Ground>(
+    volume: &mut VolumeOn<G>,
     desk: &mut Desk,
     before: &[Change],
 ) -> Result<(), CallError>
-    ensures does { (dir : ItemId) (f : Book → Book) (last : Change) (records : List AuxRecord) → GoesOn D.state dir f last records before.now (held volume.old desk.old) result (held volume.new desk.new) }
+    ensures does { (dir : ItemId) (f : Book → Book) (last : Change) (records : List AuxRecord) → GoesOn G.state dir f last records before.now (held volume.old desk.old) result (held volume.new desk.new) }
     ensures same { desk.new.waiting ≡ desk.old.waiting }
 {
     for change in before {
@@ -89,9 +89,12 @@ fn enter_before<D: Disk>(
 }
 
 // Puts records for which there is room.
-fn put_records<D: Disk>(volume: &mut Volume<D>, records: &[AuxRecord]) -> Result<(), OutOfMemory>
+fn put_records<G: Ground>(
+    volume: &mut VolumeOn<G>,
+    records: &[AuxRecord],
+) -> Result<(), OutOfMemory>
     requires { All IsShort records.now }
-    ensures ok { (v : model) (b : Book) → At (D.state volume.old.disk) volume.old.known v → HasRecords v.book (with_records records.now volume.old.known.records) b → OnOk result (At (D.state volume.new.disk) volume.new.known (record v { book = b })) }
+    ensures ok { (v : model) (b : Book) → At (G.state volume.old.disk) volume.old.known v → HasRecords v.book (with_records records.now volume.old.known.records) b → OnOk result (At (G.state volume.new.disk) volume.new.known (record v { book = b })) }
     ensures disk { volume.new.disk ≡ volume.old.disk }
     ensures usable { OnOk result (volume.new.known.broken ≡ false) }
 {
@@ -102,14 +105,14 @@ fn put_records<D: Disk>(volume: &mut Volume<D>, records: &[AuxRecord]) -> Result
 }
 
 // Makes the last change of a list, puts the records that come beside it, and tells it.
-fn enter_last<D: Disk>(
-    volume: &mut Volume<D>,
+fn enter_last<G: Ground>(
+    volume: &mut VolumeOn<G>,
     desk: &mut Desk,
     change: &Change,
     records: &[AuxRecord],
 ) -> Result<(), CallError>
     requires { All IsShort records.now }
-    ensures does { (dir : ItemId) (f : Book → Book) → Enters D.state dir (Stands D.state) (MayEnter f dir (change.now ∷ []) records.now) (change_with f change.now) (held volume.old desk.old) result (held volume.new desk.new) }
+    ensures does { (dir : ItemId) (f : Book → Book) → Enters G.state dir (Stands G.state) (MayEnter f dir (change.now ∷ []) records.now) (change_with f change.now) (held volume.old desk.old) result (held volume.new desk.new) }
     ensures same { desk.new.waiting ≡ desk.old.waiting }
 {
     let line = change.copy()?;
@@ -124,13 +127,13 @@ fn enter_last<D: Disk>(
 
 /// Makes the changes of a list of entries, and tells them. The records come with the last of them. OutOfMemory also where the list
 /// has no change, where one of them can be in no such list, or where a record is too long.
-pub(crate) fn enter_all<D: Disk>(
-    volume: &mut Volume<D>,
+pub(crate) fn enter_all<G: Ground>(
+    volume: &mut VolumeOn<G>,
     desk: &mut Desk,
     changes: &[Change],
     records: &[AuxRecord],
 ) -> Result<(), CallError>
-    ensures does { (dir : ItemId) (f : Book → Book) → Enters D.state dir (Stands D.state) (MayEnter f dir changes.now records.now) (changes_with f changes.now) (held volume.old desk.old) result (held volume.new desk.new) }
+    ensures does { (dir : ItemId) (f : Book → Book) → Enters G.state dir (Stands G.state) (MayEnter f dir changes.now records.now) (changes_with f changes.now) (held volume.old desk.old) result (held volume.new desk.new) }
     ensures same { desk.new.waiting ≡ desk.old.waiting }
 {
     if !are_short(records) {

@@ -5,7 +5,7 @@ ghost use Rattle.std.specs.Prelude.{◌≡◌, not};
 use crate::ends::{cut_here, end_met, is_access, read_here, tell_unread};
 use crate::entry_lists::enter_all;
 use crate::limits::fits;
-use crate::machines::Machine;
+use crate::machines::MachineOn;
 use crate::missing_bytes::{is_met_gone, is_met_on};
 use crate::removals::remove_item;
 use crate::rows::last_of;
@@ -14,10 +14,10 @@ use cf_base::{
     Ask, AuxRecord, Blob, CallError, Cause, Change, Code, End, Handle, ItemId, Key, Notice,
     OutOfMemory, Policy, Span, Usn, WaitId,
 };
-use cf_disk::Disk;
 use cf_filter_steps::{Need, Room, Steps};
 use cf_table::Rows;
 use cf_volume::are_short;
+use cf_volume_ground::Ground;
 use cf_waits::{Moves, Requests, Step};
 use std::alloc::Global;
 
@@ -32,10 +32,10 @@ fn lacking(left: cf_volume::Room) -> Room
     }
 }
 
-impl<D: Disk> Steps for Machine<D> {
+impl<G: Ground> Steps for MachineOn<G> {
     ghost use Rattle.cf_filter_machine.specs.Sensing.{sense, waits_known};
 
-    ghost sense = { sense D.state };
+    ghost sense = { sense G.state };
 
     ghost table = { λ f. f.known.table };
 
@@ -272,5 +272,5 @@ impl<D: Disk> Steps for Machine<D> {
         Ok(())
     }
 
-    ghost waits = { waits_known D.state };
+    ghost waits = { waits_known G.state };
 }

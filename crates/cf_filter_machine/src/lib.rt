@@ -19,5 +19,5 @@ mod rows;
 mod tombstones;
 
 pub use desks::Desk;
-pub use machines::Machine;
+pub use machines::{Machine, MachineOn};
 pub use open_files::Open;

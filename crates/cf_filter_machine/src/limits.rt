@@ -7,9 +7,9 @@ ghost use Rattle.cf_table.specs.Changing.{Fits, FitsRows, IsNewItem, item_of_cha
 ghost use Rattle.cf_table.specs.Tables.{row_of};
 
 use cf_base::{Change, ItemId};
-use cf_disk::Disk;
 use cf_table::{Row, Rows, item_of};
-use cf_volume::{MOST_IDENTITY, MOST_NAME, MOST_SIZE, Volume, fits_row};
+use cf_volume::{MOST_IDENTITY, MOST_NAME, MOST_SIZE, VolumeOn, fits_row};
+use cf_volume_ground::Ground;
 
 /// How many bytes at the front of an identity name its target.
 const TARGET: usize = 8;
@@ -104,7 +104,7 @@ fn fits_rows(rows: &Rows, change: &Change) -> bool
 
 /// Whether a change is within the limits of a volume, so that it can be applied: names, identities, sizes and spans are not
 /// too long, a Rebase is at a number of its item, what is copied is there, and a new item's id comes after all others.
-pub(crate) fn fits<D: Disk>(volume: &Volume<D>, change: &Change) -> bool
+pub(crate) fn fits<G: Ground>(volume: &VolumeOn<G>, change: &Change) -> bool
     ensures fits { IsTrue result → Fits change.now volume.now.known.table.rows }
     ensures next { IsTrue result → IsNextId change.now volume.now.known.table.next }
 {

@@ -18,10 +18,10 @@ ghost use Rattle.cf_volume.specs.Calls.{IsCause, Runs, StopsOnly};
 
 use crate::tombstones::{grave_key, grave_value, is_untargeted};
 use cf_base::{Blob, CallError, Change, ItemId, OutOfMemory, Usn, no_such_state};
-use cf_disk::Disk;
 use cf_engine_queue::numbers_of;
 use cf_table::Row;
-use cf_volume::Volume;
+use cf_volume::VolumeOn;
+use cf_volume_ground::Ground;
 use std::alloc::Global;
 
 /// The value of the record of an item's tombstone. None where none is wanted, or the identity names no target. An identity that no
@@ -47,14 +47,14 @@ fn grave_of(alloc: Global, row: Option<&Row>, bury: bool) -> Result<Option<Blob>
 }
 
 // Puts the record of a tombstone with this number, which it gives.
-fn put_grave<D: Disk>(
+fn put_grave<G: Ground>(
     alloc: Global,
-    volume: &mut Volume<D>,
+    volume: &mut VolumeOn<G>,
     number: Usn,
     value: &Blob,
 ) -> Result<Usn, CallError>
     requires { length value.now ≤ 65535 }
-    ensures ok { (v : model) (t : Tombstone) → At (D.state volume.old.disk) volume.old.known v → t.number ≡ number → value.now ≡ (tombstone_record t).value → IsKeepable v.book → tombstone_of v.book t.number ≡ None → OnOk result (At (D.state volume.new.disk) volume.new.known (record v { book = with_tombstone t v.book })) }
+    ensures ok { (v : model) (t : Tombstone) → At (G.state volume.old.disk) volume.old.known v → t.number ≡ number → value.now ≡ (tombstone_record t).value → IsKeepable v.book → tombstone_of v.book t.number ≡ None → OnOk result (At (G.state volume.new.disk) volume.new.known (record v { book = with_tombstone t v.book })) }
     ensures number { IfOk result (λ n. n ≡ number) }
     ensures memory { IfErr result (λ e. e ≡ fail.OutOfMemory) }
     ensures disk { volume.new.disk ≡ volume.old.disk }
@@ -71,19 +71,19 @@ fn put_grave<D: Disk>(
 
 /// Removes an item. With `bury` it leaves a tombstone in the same step, where its identity names a target. Gives the number
 /// of the removal. What a crash leaves stands for the last point.
-pub(crate) fn remove_item<D: Disk>(
+pub(crate) fn remove_item<G: Ground>(
     alloc: Global,
-    volume: &mut Volume<D>,
+    volume: &mut VolumeOn<G>,
     item: ItemId,
     bury: bool,
 ) -> Result<Usn, CallError>
-    ensures done { (v : model) (i : Item) → At (D.state volume.old.disk) volume.old.known v → item_of v.items item ≡ Some i → (item.0 == 1) ≡ false → IsKeepable v.book → Every (λ t. above (next_number v) t.number ≡ true) v.book.tombstones → OnOk result (At (D.state volume.new.disk) volume.new.known (gone bury item i v)) }
-    ensures fits { (v : model) (i : Item) → At (D.state volume.old.disk) volume.old.known v → item_of v.items item ≡ Some i → (item.0 == 1) ≡ false → IsKeepable v.book → Every (λ t. above (next_number v) t.number ≡ true) v.book.tombstones → OnOk result (IsKeepable (gone bury item i v).book) }
-    ensures number { (v : model) → At (D.state volume.old.disk) volume.old.known v → IfOk result (λ n. n ≡ next_number v) }
-    ensures only { (v : model) → At (D.state volume.old.disk) volume.old.known v → no_places v 1 ≡ false → volume.old.known.broken ≡ false → IfErr result StopsOnly }
-    ensures cause { IfErr result (λ e. IsCause e (D.state volume.old.disk) (D.state volume.new.disk)) }
-    ensures crash { (v : model) → At (D.state volume.old.disk) volume.old.known v → Leaves (D.state volume.old.disk) (D.state volume.new.disk) (StandsLast v) }
-    ensures runs { Runs (D.state volume.old.disk) (D.state volume.new.disk) }
+    ensures done { (v : model) (i : Item) → At (G.state volume.old.disk) volume.old.known v → item_of v.items item ≡ Some i → (item.0 == 1) ≡ false → IsKeepable v.book → Every (λ t. above (next_number v) t.number ≡ true) v.book.tombstones → OnOk result (At (G.state volume.new.disk) volume.new.known (gone bury item i v)) }
+    ensures fits { (v : model) (i : Item) → At (G.state volume.old.disk) volume.old.known v → item_of v.items item ≡ Some i → (item.0 == 1) ≡ false → IsKeepable v.book → Every (λ t. above (next_number v) t.number ≡ true) v.book.tombstones → OnOk result (IsKeepable (gone bury item i v).book) }
+    ensures number { (v : model) → At (G.state volume.old.disk) volume.old.known v → IfOk result (λ n. n ≡ next_number v) }
+    ensures only { (v : model) → At (G.state volume.old.disk) volume.old.known v → no_places v 1 ≡ false → volume.old.known.broken ≡ false → IfErr result StopsOnly }
+    ensures cause { IfErr result (λ e. IsCause e (G.state volume.old.disk) (G.state volume.new.disk)) }
+    ensures crash { (v : model) → At (G.state volume.old.disk) volume.old.known v → Leaves (G.state volume.old.disk) (G.state volume.new.disk) (StandsLast v) }
+    ensures runs { Runs (G.state volume.old.disk) (G.state volume.new.disk) }
     ensures stays { IfErr result (λ e. StaysBy e volume.old.known volume.new.known) }
     ensures usable { OnOk result (volume.new.known.broken ≡ false) }
 {

@@ -11,7 +11,7 @@ use Rattle.cf_filter_events.specs.Meaning.{Is, IsOn, OnBy}
 use Rattle.cf_filter_events.specs.Pasts.{Past}
 use Rattle.cf_filter_events.specs.declared.places.Acting.{Acting}
 use Rattle.cf_filter_events.specs.declared.places.Acting.TheVariants as acting
-use Rattle.cf_filter_events.specs.declared.places.Running.{Running as Run}
+use Rattle.cf_filter_events.specs.declared.places.RunningOn.{RunningOn as Run}
 use Rattle.cf_filter_machine.proofs.Shown.{shows_at}
 use Rattle.cf_filter_steps.proofs.LookUps.{of_found}
 use Rattle.cf_filter_steps.specs.Good.{Every, IsSmall}

@@ -8,7 +8,7 @@ use Rattle.cf_filter_events.specs.Stepped.{actor_of, disk_of, with_actor}
 use Rattle.cf_filter_events.specs.declared.places.Acting.{Acting}
 use Rattle.cf_filter_events.specs.declared.places.Acting.TheVariants as acting
 use Rattle.cf_filter_events.specs.declared.places.Cut.{Cut}
-use Rattle.cf_filter_events.specs.declared.places.Running.{Running as Run}
+use Rattle.cf_filter_events.specs.declared.places.RunningOn.{RunningOn as Run}
 use Rattle.cf_model.specs.State.{Link, Point, State, with_link}
 
 -- what is changed, and what stays

@@ -7,7 +7,7 @@ use Rattle.cf_disk.specs.Disk.{State as Disk}
 use Rattle.cf_filter_events.specs.Actors.{Acts}
 use Rattle.cf_filter_events.specs.Meaning.{IsOn, OnBy}
 use Rattle.cf_filter_events.specs.Pasts.{Past}
-use Rattle.cf_filter_events.specs.declared.places.Running.{Running as Run}
+use Rattle.cf_filter_events.specs.declared.places.RunningOn.{RunningOn as Run}
 use Rattle.cf_filter_machine.proofs.Shown.{shows_at}
 use Rattle.cf_filter_machine.specs.Showing.{Shows}
 use Rattle.cf_model.specs.Blocks.{blocks_used}

@@ -7,7 +7,7 @@ use Rattle.cf_filter_events.specs.Counted.{StepsOn}
 use Rattle.cf_filter_events.specs.Meaning.{IsBegun, IsOn, OnBy}
 use Rattle.cf_filter_events.specs.Pasts.{Past}
 use Rattle.cf_filter_events.specs.Stepped.{SteppedTo}
-use Rattle.cf_filter_events.specs.declared.places.Running.{Running as Run}
+use Rattle.cf_filter_events.specs.declared.places.RunningOn.{RunningOn as Run}
 use Rattle.cf_filter_events.proofs.Counted.{plain_if}
 use Rattle.cf_filter_events.proofs.Finished.{while_on}
 use Rattle.cf_world_filter.specs.Scripts.{no_remote, scripts}

@@ -5,11 +5,11 @@ ghost use Rattle.cf_provider_script.specs.Lines.{Answers};
 ghost use Rattle.cf_world_filter.specs.Scripts.{scripts};
 
 use cf_base::{Answer, Event, Mode, OutOfMemory, no_such_state};
-use cf_disk::Disk;
-use cf_filter::Filter;
+use cf_filter::FilterOn;
 use cf_filter_events::Actor;
 use cf_provider::{Callback, Port, Provider};
 use cf_provider_script::Scripted;
+use cf_volume_ground::Ground;
 use std::alloc::Global;
 use std::marker::Model;
 
@@ -67,10 +67,10 @@ impl Actor for ScriptActor {
         Err(no_such_state())
     }
 
-    fn act<D: Disk>(
+    fn act<G: Ground>(
         &mut self,
         alloc: Global,
-        filter: &mut Filter<D>,
+        filter: &mut FilterOn<G>,
         event: &Event,
     ) -> Result<Answer, OutOfMemory> {
         match event {

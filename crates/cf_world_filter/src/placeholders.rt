@@ -8,10 +8,10 @@ ghost use Rattle.cf_base.specs.declared.events.ProviderEvent.TheVariants as prov
 ghost use Rattle.cf_world_filter.specs.Scripts.{scripts};
 
 use cf_base::{Answer, Identity, Notes, OutOfMemory, Text};
-use cf_disk::Disk;
-use cf_filter::Filter;
+use cf_filter::FilterOn;
 use cf_filter_events::{answered, item, number};
 use cf_item_rules::Creation;
+use cf_volume_ground::Ground;
 use std::alloc::Global;
 
 fn wide_size(size: Option<u32>) -> Option<u64>
@@ -24,15 +24,15 @@ fn wide_size(size: Option<u32>) -> Option<u64>
 }
 
 /// `place`
-pub(crate) fn place<D: Disk>(
+pub(crate) fn place<G: Ground>(
     alloc: Global,
-    filter: &mut Filter<D>,
+    filter: &mut FilterOn<G>,
     path: &Text,
     size: u32,
     identity: &Identity,
     in_sync: bool,
 ) -> Result<Answer, OutOfMemory>
-    ensures { (plan : List (Bool × Operation)) → StepsOn scripts D.state (event.Provider (provider.Place path.now size identity.now in_sync)) (record { filter = filter.old; actor = plan }) result (record { filter = filter.new; actor = plan }) }
+    ensures { (plan : List (Bool × Operation)) → StepsOn scripts G.state (event.Provider (provider.Place path.now size identity.now in_sync)) (record { filter = filter.old; actor = plan }) result (record { filter = filter.new; actor = plan }) }
 {
     let identity = identity.copy()?;
     let what = Creation::Placeholder {
@@ -46,14 +46,14 @@ pub(crate) fn place<D: Disk>(
 }
 
 /// `placedir`
-pub(crate) fn place_dir<D: Disk>(
+pub(crate) fn place_dir<G: Ground>(
     alloc: Global,
-    filter: &mut Filter<D>,
+    filter: &mut FilterOn<G>,
     path: &Text,
     identity: &Identity,
     in_sync: bool,
 ) -> Result<Answer, OutOfMemory>
-    ensures { (plan : List (Bool × Operation)) → StepsOn scripts D.state (event.Provider (provider.PlaceDir path.now identity.now in_sync)) (record { filter = filter.old; actor = plan }) result (record { filter = filter.new; actor = plan }) }
+    ensures { (plan : List (Bool × Operation)) → StepsOn scripts G.state (event.Provider (provider.PlaceDir path.now identity.now in_sync)) (record { filter = filter.old; actor = plan }) result (record { filter = filter.new; actor = plan }) }
 {
     let identity = identity.copy()?;
     let what = Creation::PlaceholderDir {
@@ -66,13 +66,13 @@ pub(crate) fn place_dir<D: Disk>(
 }
 
 /// `convert`
-pub(crate) fn convert<D: Disk>(
+pub(crate) fn convert<G: Ground>(
     alloc: Global,
-    filter: &mut Filter<D>,
+    filter: &mut FilterOn<G>,
     path: &Text,
     identity: &Identity,
 ) -> Result<Answer, OutOfMemory>
-    ensures { (plan : List (Bool × Operation)) → StepsOn scripts D.state (event.Provider (provider.Convert path.now identity.now)) (record { filter = filter.old; actor = plan }) result (record { filter = filter.new; actor = plan }) }
+    ensures { (plan : List (Bool × Operation)) → StepsOn scripts G.state (event.Provider (provider.Convert path.now identity.now)) (record { filter = filter.old; actor = plan }) result (record { filter = filter.new; actor = plan }) }
 {
     let mut notes = Notes::new(alloc);
     let told = filter.convert(path.as_str(), identity, &mut notes);
@@ -80,12 +80,12 @@ pub(crate) fn convert<D: Disk>(
 }
 
 /// `revert`
-pub(crate) fn revert<D: Disk>(
+pub(crate) fn revert<G: Ground>(
     alloc: Global,
-    filter: &mut Filter<D>,
+    filter: &mut FilterOn<G>,
     path: &Text,
 ) -> Result<Answer, OutOfMemory>
-    ensures { (plan : List (Bool × Operation)) → StepsOn scripts D.state (event.Provider (provider.Revert path.now)) (record { filter = filter.old; actor = plan }) result (record { filter = filter.new; actor = plan }) }
+    ensures { (plan : List (Bool × Operation)) → StepsOn scripts G.state (event.Provider (provider.Revert path.now)) (record { filter = filter.old; actor = plan }) result (record { filter = filter.new; actor = plan }) }
 {
     let mut notes = Notes::new(alloc);
     let told = filter.revert(path.as_str(), &mut notes);
@@ -93,14 +93,14 @@ pub(crate) fn revert<D: Disk>(
 }
 
 /// `update`
-pub(crate) fn update<D: Disk>(
+pub(crate) fn update<G: Ground>(
     alloc: Global,
-    filter: &mut Filter<D>,
+    filter: &mut FilterOn<G>,
     path: &Text,
     identity: &Identity,
     size: Option<u32>,
 ) -> Result<Answer, OutOfMemory>
-    ensures { (plan : List (Bool × Operation)) → StepsOn scripts D.state (event.Provider (provider.Update path.now identity.now size)) (record { filter = filter.old; actor = plan }) result (record { filter = filter.new; actor = plan }) }
+    ensures { (plan : List (Bool × Operation)) → StepsOn scripts G.state (event.Provider (provider.Update path.now identity.now size)) (record { filter = filter.old; actor = plan }) result (record { filter = filter.new; actor = plan }) }
 {
     let mut notes = Notes::new(alloc);
     let told = filter.update(path.as_str(), identity, wide_size(size), &mut notes);
@@ -108,12 +108,12 @@ pub(crate) fn update<D: Disk>(
 }
 
 /// `unmark`
-pub(crate) fn unmark<D: Disk>(
+pub(crate) fn unmark<G: Ground>(
     alloc: Global,
-    filter: &mut Filter<D>,
+    filter: &mut FilterOn<G>,
     path: &Text,
 ) -> Result<Answer, OutOfMemory>
-    ensures { (plan : List (Bool × Operation)) → StepsOn scripts D.state (event.Provider (provider.Unmark path.now)) (record { filter = filter.old; actor = plan }) result (record { filter = filter.new; actor = plan }) }
+    ensures { (plan : List (Bool × Operation)) → StepsOn scripts G.state (event.Provider (provider.Unmark path.now)) (record { filter = filter.old; actor = plan }) result (record { filter = filter.new; actor = plan }) }
 {
     let mut notes = Notes::new(alloc);
     let told = filter.clear_in_sync(path.as_str(), &mut notes);

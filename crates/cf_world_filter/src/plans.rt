@@ -10,22 +10,22 @@ ghost use Rattle.cf_base.specs.declared.events.ProviderEvent.TheVariants as prov
 
 use crate::actors::ScriptActor;
 use cf_base::{Answer, Notes, Operation, OutOfMemory, Shown, Text, Usn};
-use cf_disk::Disk;
-use cf_filter::Filter;
+use cf_filter::FilterOn;
 use cf_filter_events::{answered, number, outcome, plainly};
 use cf_provider_script::Planned;
+use cf_volume_ground::Ground;
 use std::alloc::Global;
 
 impl ScriptActor {
     /// `mark`
-    pub(crate) fn mark<D: Disk>(
+    pub(crate) fn mark<G: Ground>(
         &mut self,
         alloc: Global,
-        filter: &mut Filter<D>,
+        filter: &mut FilterOn<G>,
         path: &Text,
         given: Usn,
     ) -> Result<Answer, OutOfMemory>
-        ensures { StepsOn scripts D.state (event.Provider (provider.Mark path.now given)) (record { filter = filter.old; actor = self.old }) result (record { filter = filter.new; actor = self.new }) }
+        ensures { StepsOn scripts G.state (event.Provider (provider.Mark path.now given)) (record { filter = filter.old; actor = self.old }) result (record { filter = filter.new; actor = self.new }) }
     {
         let mut notes = Notes::new(alloc);
         let told = filter.set_in_sync(path.as_str(), given, self, &mut notes);
@@ -33,13 +33,13 @@ impl ScriptActor {
     }
 
     /// `do`
-    pub(crate) fn carry_out<D: Disk>(
+    pub(crate) fn carry_out<G: Ground>(
         &mut self,
         alloc: Global,
-        filter: &mut Filter<D>,
+        filter: &mut FilterOn<G>,
         operation: &Operation,
     ) -> Result<Answer, OutOfMemory>
-        ensures { StepsOn scripts D.state (event.Provider (provider.Do operation.now)) (record { filter = filter.old; actor = self.old }) result (record { filter = filter.new; actor = self.new }) }
+        ensures { StepsOn scripts G.state (event.Provider (provider.Do operation.now)) (record { filter = filter.old; actor = self.old }) result (record { filter = filter.new; actor = self.new }) }
     {
         let mut notes = Notes::new(alloc);
         let told = filter.execute_now(operation, self, &mut notes);

@@ -7,19 +7,19 @@ ghost use Rattle.cf_world_filter.specs.Scripts.{scripts};
 use crate::actors::ScriptActor;
 use crate::placeholders::{convert, place, place_dir, revert, unmark, update};
 use cf_base::{Answer, OutOfMemory, ProviderEvent};
-use cf_disk::Disk;
-use cf_filter::Filter;
+use cf_filter::FilterOn;
+use cf_volume_ground::Ground;
 use std::alloc::Global;
 
 impl ScriptActor {
     /// Does an event of the provider while the volume is open and no event met Device, and answers it.
-    pub(crate) fn provide<D: Disk>(
+    pub(crate) fn provide<G: Ground>(
         &mut self,
         alloc: Global,
-        filter: &mut Filter<D>,
+        filter: &mut FilterOn<G>,
         provided: &ProviderEvent,
     ) -> Result<Answer, OutOfMemory>
-        ensures { StepsOn scripts D.state (event.Provider provided.now) (record { filter = filter.old; actor = self.old }) result (record { filter = filter.new; actor = self.new }) }
+        ensures { StepsOn scripts G.state (event.Provider provided.now) (record { filter = filter.old; actor = self.old }) result (record { filter = filter.new; actor = self.new }) }
     {
         match provided {
             ProviderEvent::Place {

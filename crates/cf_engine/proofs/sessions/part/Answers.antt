@@ -9,5 +9,5 @@ use Rattle.cf_model.specs.EngineEvents.{engine_event}
 use Rattle.cf_engine.proofs.sessions.part.Goals as goal
 
 pub returns-in_default : goal.returns-in_default
-returns-in_default g c = subst (λ (q : CallError). Answers (whole (sense g.D.Disk.state) g.R.Remote.told) Any (engine_event c.args.event) (c.args.filter.now, c.args.engine.now) (Err q) (c.args.filter.now, c.args.engine.now)) (sym c.from.ensures)
-    (no_memory (whole (sense g.D.Disk.state) g.R.Remote.told) Any (engine_event c.args.event) (c.args.filter.now, c.args.engine.now))
+returns-in_default g c = subst (λ (q : CallError). Answers (whole (sense g.G.Ground.state) g.R.Remote.told) Any (engine_event c.args.event) (c.args.filter.now, c.args.engine.now) (Err q) (c.args.filter.now, c.args.engine.now)) (sym c.from.ensures)
+    (no_memory (whole (sense g.G.Ground.state) g.R.Remote.told) Any (engine_event c.args.event) (c.args.filter.now, c.args.engine.now))

@@ -10,8 +10,8 @@ use Rattle.cf_filter.proofs.host_steps.add_line.Goals as goal
 
 pub returns : goal.returns
 returns g c =
-    desk_stepped g.D.Disk.state Any (with_notes (c.args.line ∷ [])) (λ (d : Desk). record d { notes = d.notes ++ c.args.line ∷ [] }) c.args.filter.now c.add_note.new.self c.args.filter.now.desk
+    desk_stepped g.G.Ground.state Any (with_notes (c.args.line ∷ [])) (λ (d : Desk). record d { notes = d.notes ++ c.args.line ∷ [] }) c.args.filter.now c.add_note.new.self c.args.filter.now.desk
     (record c.args.filter.now.desk { notes = c.args.filter.now.desk.notes ++ c.args.line ∷ [] }) c.in_ok-add_note.ensures.ok refl refl (λ s. refl) (λ s h. refl) (λ s h p. same_good s (with_notes (c.args.line ∷ []) s) refl refl refl h.good)
 
 pub returns-in_err-add_note : goal.returns-in_err-add_note
-returns-in_err-add_note g c = desk_exit g.D.Disk.state Any (noted (with_notes (c.args.line ∷ []))) c.args.filter.now c.add_note.new.self c.args.filter.now.desk c.from_residual.result c.from_residual.ensures.1 c.in_err-add_note.ensures.err
+returns-in_err-add_note g c = desk_exit g.G.Ground.state Any (noted (with_notes (c.args.line ∷ []))) c.args.filter.now c.add_note.new.self c.args.filter.now.desk c.from_residual.result c.from_residual.ensures.1 c.in_err-add_note.ensures.err

@@ -12,5 +12,5 @@ pub returns : goal.returns
 returns g c = λ i. record {
   is = λ s h p.
       c.anchor_in.ensures ∙ ap (λ (o : Option Row). part (λ (r : Row). r.anchor) no_usn o) (c.get.ensures ∙ ap (λ (t : Table). row_of t.rows c.args.item) c.rows.ensures)
-      ∙ anchor_known (cluster_on (g.D.Disk.state c.args.filter.now.disk).seen) s.volume.book c.args.filter.now.known.table.rows s.volume.items c.args.item h.volume.now.rows h.volume.now.book;
+      ∙ anchor_known (cluster_on (g.G.Ground.state c.args.filter.now.disk).seen) s.volume.book c.args.filter.now.known.table.rows s.volume.items c.args.item h.volume.now.rows h.volume.now.book;
 }

@@ -13,11 +13,11 @@ use Rattle.cf_filter.proofs.host_steps.drop_record.Goals as goal
 
 pub returns-then-key-gt-MOST_KEY : goal.returns-then-key-gt-MOST_KEY
 returns-then-key-gt-MOST_KEY g c = λ f.
-    subst (λ (e : CallError). Answers (sense g.D.Disk.state) (DropsRecord c.args.key.now f) (noted (with_book_of f)) c.args.filter.now (Err e) c.args.filter.now) (sym c.from.ensures)
-    (no_memory (sense g.D.Disk.state) (DropsRecord c.args.key.now f) (noted (with_book_of f)) c.args.filter.now)
+    subst (λ (e : CallError). Answers (sense g.G.Ground.state) (DropsRecord c.args.key.now f) (noted (with_book_of f)) c.args.filter.now (Err e) c.args.filter.now) (sym c.from.ensures)
+    (no_memory (sense g.G.Ground.state) (DropsRecord c.args.key.now f) (noted (with_book_of f)) c.args.filter.now)
 
 pub returns : goal.returns
 returns g c = λ f.
-    subst (λ (r : Result (Unit {0}) CallError). Answers (sense g.D.Disk.state) (DropsRecord c.args.key.now f) (noted (with_book_of f)) c.args.filter.now r c.put_aux-put.new.machine) (sym c.dropped.ensures)
-    (seen_from c.filter.view_is (drop_done g.D.Disk.state (DropsRecord c.args.key.now f) (why_full f) (with_book_of f) _ _ c.put_aux-put.result
-    (weaker (sense g.D.Disk.state) (PutsRecord c.args.key.now None f) (DropsRecord c.args.key.now f) (attempt (why_full f) (noted (with_book_of f))) _ _ _ (λ s h. puts_record c.args.key.now None f s h) (c.put_aux-put.ensures.does f))))
+    subst (λ (r : Result (Unit {0}) CallError). Answers (sense g.G.Ground.state) (DropsRecord c.args.key.now f) (noted (with_book_of f)) c.args.filter.now r c.put_aux-put.new.machine) (sym c.dropped.ensures)
+    (seen_from c.filter.view_is (drop_done g.G.Ground.state (DropsRecord c.args.key.now f) (why_full f) (with_book_of f) _ _ c.put_aux-put.result
+    (weaker (sense g.G.Ground.state) (PutsRecord c.args.key.now None f) (DropsRecord c.args.key.now f) (attempt (why_full f) (noted (with_book_of f))) _ _ _ (λ s h. puts_record c.args.key.now None f s h) (c.put_aux-put.ensures.does f))))

@@ -15,6 +15,6 @@ use Rattle.cf_filter_machine.proofs.entry_lists.enter_before.Given as goal
 abbrev pub invariant-loop-change : goal.invariant-loop-change
 invariant-loop-change g l =
     ((dir : ItemId) (f : Book → Book) (last : Change) (records : List AuxRecord) (r : Result (Unit {0}) CallError) (y : Held _)
-    → Enters g.D.Disk.state dir (Stands g.D.Disk.state) (MayEnter f dir (drop l.change-index l.before ++ last ∷ []) records) (changes_with f (drop l.change-index l.before ++ last ∷ [])) (held l.volume l.desk) r y
-    → Enters g.D.Disk.state dir (Stands g.D.Disk.state) (MayEnter f dir (l.before ++ last ∷ []) records) (changes_with f (l.before ++ last ∷ [])) (held l.fn.volume l.fn.desk) r y)
+    → Enters g.G.Ground.state dir (Stands g.G.Ground.state) (MayEnter f dir (drop l.change-index l.before ++ last ∷ []) records) (changes_with f (drop l.change-index l.before ++ last ∷ [])) (held l.volume l.desk) r y
+    → Enters g.G.Ground.state dir (Stands g.G.Ground.state) (MayEnter f dir (l.before ++ last ∷ []) records) (changes_with f (l.before ++ last ∷ [])) (held l.fn.volume l.fn.desk) r y)
     × (l.desk.waiting ≡ l.fn.desk.waiting)

@@ -6,13 +6,13 @@ use Rattle.cf_filter_machine.proofs.ReadSteps.{still}
 use Rattle.cf_filter_machine.proofs.entry_lists.put_entry.Goals as goal
 
 pub returns-then-not-is_listed-clause-crash : goal.returns-then-not-is_listed-clause-crash
-returns-then-not-is_listed-clause-crash g c = λ v at. still (g.D.Disk.state c.args.volume.now.disk) v (λ m left. c.last_point.ensures v at m left)
+returns-then-not-is_listed-clause-crash g c = λ v at. still (g.G.Ground.state c.args.volume.now.disk) v (λ m left. c.last_point.ensures v at m left)
 
 pub returns-then-not-is_listed-clause-runs : goal.returns-then-not-is_listed-clause-runs
 returns-then-not-is_listed-clause-runs g c = record { size = refl; settings = refl; powers = refl; faults = omega arith; calm = omega arith }
 
 pub returns-then-not-fits-clause-crash : goal.returns-then-not-fits-clause-crash
-returns-then-not-fits-clause-crash g c = λ v at. still (g.D.Disk.state c.args.volume.now.disk) v (λ m left. c.last_point.ensures v at m left)
+returns-then-not-fits-clause-crash g c = λ v at. still (g.G.Ground.state c.args.volume.now.disk) v (λ m left. c.last_point.ensures v at m left)
 
 pub returns-then-not-fits-clause-runs : goal.returns-then-not-fits-clause-runs
 returns-then-not-fits-clause-runs g c = record { size = refl; settings = refl; powers = refl; faults = omega arith; calm = omega arith }
@@ -29,7 +29,7 @@ returns-clause-listed g c = ok_of c.apply.result (sym c.is_listed.ensures ∙ c.
 pub returns-clause-ok : goal.returns-clause-ok
 returns-clause-ok g c = λ v at.
     let is = plain c.args.change.now (sym c.is_listed.ensures ∙ c.if-not-is_listed.false) in
-    on_ok_map c.apply.result (λ applied. put_plain (g.D.Disk.state c.apply.new.self.disk) c.apply.new.self.known c.args.change.now v (sym c.is_listed.ensures ∙ c.if-not-is_listed.false) applied)
+    on_ok_map c.apply.result (λ applied. put_plain (g.G.Ground.state c.apply.new.self.disk) c.apply.new.self.known c.args.change.now v (sym c.is_listed.ensures ∙ c.if-not-is_listed.false) applied)
     (c.apply.ensures.ok v at (is.fits v.book) (λ may. absurd (true≢false (sym may ∙ is.room v))))
 
 pub returns-clause-only : goal.returns-clause-only

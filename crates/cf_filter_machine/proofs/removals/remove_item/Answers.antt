@@ -24,7 +24,7 @@ use Rattle.cf_volume.specs.Calls.{Runs, StopsOnly}
 use Rattle.cf_filter_machine.proofs.removals.remove_item.Goals as goal
 
 pub returns-in_err-grave-clause-crash : goal.returns-in_err-grave-clause-crash
-returns-in_err-grave-clause-crash g c = λ v at. still (g.D.Disk.state c.args.volume.now.disk) v (λ m left. c.last_point.ensures v at m left)
+returns-in_err-grave-clause-crash g c = λ v at. still (g.G.Ground.state c.args.volume.now.disk) v (λ m left. c.last_point.ensures v at m left)
 
 pub returns-in_err-grave-clause-only : goal.returns-in_err-grave-clause-only
 returns-in_err-grave-clause-only g c = λ v at left whole. memory_alone c.from_residual.result c.from_residual.ensures.1
@@ -45,14 +45,14 @@ returns-in-None-clause-crash g c = λ v at. c.in_ok-number.ensures.kept_crash v 
 
 pub returns-in-None-clause-done : goal.returns-in-None-clause-done
 returns-in-None-clause-done g c = λ v i at there other keeps graves.
-    let grave = c.in_ok-grave.ensures.grave i (row_there (g.D.Disk.state c.args.volume.now.disk) c.args.volume.now.known v c.args.item i _ c.row.ensures at there) (other_own v.items c.args.item i there other) in
-    gone_at (g.D.Disk.state c.apply.new.self.disk) c.apply.new.self.known c.args.bury c.args.item i v (put_change (change.Remove c.args.item) v).book
+    let grave = c.in_ok-grave.ensures.grave i (row_there (g.G.Ground.state c.args.volume.now.disk) c.args.volume.now.known v c.args.item i _ c.row.ensures at there) (other_own v.items c.args.item i there other) in
+    gone_at (g.G.Ground.state c.apply.new.self.disk) c.apply.new.self.known c.args.bury c.args.item i v (put_change (change.Remove c.args.item) v).book
     (sym (no_grave c.args.bury i (next_number v) (put_change (change.Remove c.args.item) v).book (subst (IsGraveOf c.args.bury i) c.in-None.is grave)))
-    (was_gone (g.D.Disk.state c.apply.new.self.disk) c.apply.new.self.known c.args.item v (c.in_ok-number.ensures.ok v at (short_ids v.book keeps) (λ may. absurd (true≢false (sym may)))))
+    (was_gone (g.G.Ground.state c.apply.new.self.disk) c.apply.new.self.known c.args.item v (c.in_ok-number.ensures.ok v at (short_ids v.book keeps) (λ may. absurd (true≢false (sym may)))))
 
 pub returns-in-Some-clause-crash : goal.returns-in-Some-clause-crash
 returns-in-Some-clause-crash g c = λ v at.
-    subst (λ (z : _). Leaves (g.D.Disk.state c.args.volume.now.disk) (g.D.Disk.state z) (StandsLast v)) (sym c.put_grave.ensures.disk) (c.in_ok-number.ensures.kept_crash v at refl)
+    subst (λ (z : _). Leaves (g.G.Ground.state c.args.volume.now.disk) (g.G.Ground.state z) (StandsLast v)) (sym c.put_grave.ensures.disk) (c.in_ok-number.ensures.kept_crash v at refl)
 
 pub returns-in-Some-clause-only : goal.returns-in-Some-clause-only
 returns-in-Some-clause-only g c = λ v at left whole. err_map c.put_grave.result _ StopsOnly (λ e memory. subst StopsOnly (sym memory) (record {})) c.put_grave.ensures.memory
@@ -62,29 +62,29 @@ returns-in-Some-clause-number g c = λ v at. ok_map c.put_grave.result _ _ (λ n
 
 pub returns-in-Some-clause-done : goal.returns-in-Some-clause-done
 returns-in-Some-clause-done g c = λ v i at there other keeps graves.
-    let grave = subst (IsGraveOf c.args.bury i) c.in-Some.is (c.in_ok-grave.ensures.grave i (row_there (g.D.Disk.state c.args.volume.now.disk) c.args.volume.now.known v c.args.item i _ c.row.ensures at there) (other_own v.items c.args.item i there other)) in
+    let grave = subst (IsGraveOf c.args.bury i) c.in-Some.is (c.in_ok-grave.ensures.grave i (row_there (g.G.Ground.state c.args.volume.now.disk) c.args.volume.now.known v c.args.item i _ c.row.ensures at there) (other_own v.items c.args.item i there other)) in
     on_ok_map c.put_grave.result
-    (λ done. gone_at (g.D.Disk.state c.put_grave.new.volume.disk) c.put_grave.new.volume.known c.args.bury c.args.item i v (with_tombstone (tombstone_for i (next_number v)) (put_change (change.Remove c.args.item) v).book)
+    (λ done. gone_at (g.G.Ground.state c.put_grave.new.volume.disk) c.put_grave.new.volume.known c.args.bury c.args.item i v (with_tombstone (tombstone_for i (next_number v)) (put_change (change.Remove c.args.item) v).book)
     (one_grave c.args.bury i (next_number v) (put_change (change.Remove c.args.item) v).book grave.0) done)
     (c.put_grave.ensures.ok (put_change (change.Remove c.args.item) v) (tombstone_for i (next_number v))
-    (was_gone (g.D.Disk.state c.apply.new.self.disk) c.apply.new.self.known c.args.item v (c.in_ok-number.ensures.ok v at (short_ids v.book keeps) (λ may. absurd (true≢false (sym may)))))
+    (was_gone (g.G.Ground.state c.apply.new.self.disk) c.apply.new.self.known c.args.item v (c.in_ok-number.ensures.ok v at (short_ids v.book keeps) (λ may. absurd (true≢false (sym may)))))
     (sym (c.in_ok-number.ensures.number v at)) grave.1 (change_kept v.book (change.Remove c.args.item) keeps) (not_yet (next_number v) v.book.tombstones graves))
 
 pub returns-in-None-clause-fits : goal.returns-in-None-clause-fits
 returns-in-None-clause-fits g c = λ v i at there other keeps graves.
-    let grave = c.in_ok-grave.ensures.grave i (row_there (g.D.Disk.state c.args.volume.now.disk) c.args.volume.now.known v c.args.item i _ c.row.ensures at there) (other_own v.items c.args.item i there other) in
+    let grave = c.in_ok-grave.ensures.grave i (row_there (g.G.Ground.state c.args.volume.now.disk) c.args.volume.now.known v c.args.item i _ c.row.ensures at there) (other_own v.items c.args.item i there other) in
     none_fits c.args.bury c.args.item i v keeps (subst (IsGraveOf c.args.bury i) c.in-None.is grave)
 
 pub returns-in-Some-clause-fits : goal.returns-in-Some-clause-fits
 returns-in-Some-clause-fits g c = λ v i at there other keeps graves.
-    let grave = subst (IsGraveOf c.args.bury i) c.in-Some.is (c.in_ok-grave.ensures.grave i (row_there (g.D.Disk.state c.args.volume.now.disk) c.args.volume.now.known v c.args.item i _ c.row.ensures at there) (other_own v.items c.args.item i there other)) in
+    let grave = subst (IsGraveOf c.args.bury i) c.in-Some.is (c.in_ok-grave.ensures.grave i (row_there (g.G.Ground.state c.args.volume.now.disk) c.args.volume.now.known v c.args.item i _ c.row.ensures at there) (other_own v.items c.args.item i there other)) in
     on_ok_map c.put_grave.result (λ usable. one_fits c.args.bury c.args.item i v keeps grave.0 grave.2 (subst FitsUsn (c.in_ok-number.ensures.number v at) c.put_grave.ensures.fits) graves) c.put_grave.ensures.usable
 
 pub returns-in_err-grave-clause-runs : goal.returns-in_err-grave-clause-runs
 returns-in_err-grave-clause-runs g c = record { size = refl; settings = refl; powers = refl; faults = omega arith; calm = omega arith }
 
 pub returns-in-Some-clause-runs : goal.returns-in-Some-clause-runs
-returns-in-Some-clause-runs g c = subst (λ (z : _). Runs (g.D.Disk.state c.args.volume.now.disk) (g.D.Disk.state z)) (sym c.put_grave.ensures.disk) c.in_ok-number.ensures.runs
+returns-in-Some-clause-runs g c = subst (λ (z : _). Runs (g.G.Ground.state c.args.volume.now.disk) (g.G.Ground.state z)) (sym c.put_grave.ensures.disk) c.in_ok-number.ensures.runs
 
 pub returns-in_err-grave-clause-stays : goal.returns-in_err-grave-clause-stays
 returns-in_err-grave-clause-stays g c = memory_left c.from_residual.result OutOfMemory _ _ c.from_residual.ensures.1 (record {})

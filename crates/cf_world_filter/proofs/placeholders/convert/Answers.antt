@@ -10,4 +10,4 @@ use Rattle.cf_world_filter.proofs.placeholders.convert.Goals as goal
 
 pub returns : goal.returns
 returns g c =
-    λ plan. calls_step Answers scripts scripts_act g.D.Disk.state _ (convert c.as_str.result.now c.args.identity.now) _ _ _ _ _ _ _ _ _ (record { of = refl; stops = refl; needs = refl }) (λ P closed. convert_keeps P closed c.as_str.result.now c.args.identity.now) (λ z m. ap (λ (p : List ℕ). in_filter (convert p c.args.identity.now) z) (sym c.as_str.ensures)) c.new-notes.ensures c.convert-told.ensures.does c.convert-told.ensures.keeps c.number.ensures c.answered.ensures
+    λ plan. calls_step Answers scripts scripts_act g.G.Ground.state _ (convert c.as_str.result.now c.args.identity.now) _ _ _ _ _ _ _ _ _ (record { of = refl; stops = refl; needs = refl }) (λ P closed. convert_keeps P closed c.as_str.result.now c.args.identity.now) (λ z m. ap (λ (p : List ℕ). in_filter (convert p c.args.identity.now) z) (sym c.as_str.ensures)) c.new-notes.ensures c.convert-told.ensures.does c.convert-told.ensures.keeps c.number.ensures c.answered.ensures

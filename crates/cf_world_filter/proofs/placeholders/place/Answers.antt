@@ -12,7 +12,7 @@ use Rattle.cf_world_filter.proofs.placeholders.place.Goals as goal
 
 pub returns : goal.returns
 returns g c =
-    λ plan. calls_step Answers scripts scripts_act g.D.Disk.state _ (create c.as_str.result.now (NewPlaceholder c.args.size c.in_ok-identity.identity c.args.in_sync)) _ _ _ _ _ _ _ _ _ (record { of = refl; stops = refl; needs = refl }) (λ P closed. create_keeps P closed c.as_str.result.now (NewPlaceholder c.args.size c.in_ok-identity.identity c.args.in_sync)) (λ z m. ap (λ (i : List ℕ). in_filter (create c.args.path.now (NewPlaceholder c.args.size i c.args.in_sync)) z) (sym c.in_ok-identity.ensures) ∙ ap (λ (p : List ℕ). in_filter (create p (NewPlaceholder c.args.size c.in_ok-identity.identity c.args.in_sync)) z) (sym c.as_str.ensures)) c.new-notes.ensures c.create-told.ensures.does c.create-told.ensures.keeps c.item.ensures c.answered.ensures
+    λ plan. calls_step Answers scripts scripts_act g.G.Ground.state _ (create c.as_str.result.now (NewPlaceholder c.args.size c.in_ok-identity.identity c.args.in_sync)) _ _ _ _ _ _ _ _ _ (record { of = refl; stops = refl; needs = refl }) (λ P closed. create_keeps P closed c.as_str.result.now (NewPlaceholder c.args.size c.in_ok-identity.identity c.args.in_sync)) (λ z m. ap (λ (i : List ℕ). in_filter (create c.args.path.now (NewPlaceholder c.args.size i c.args.in_sync)) z) (sym c.in_ok-identity.ensures) ∙ ap (λ (p : List ℕ). in_filter (create p (NewPlaceholder c.args.size c.in_ok-identity.identity c.args.in_sync)) z) (sym c.as_str.ensures)) c.new-notes.ensures c.create-told.ensures.does c.create-told.ensures.keeps c.item.ensures c.answered.ensures
 
 pub returns-in_err-identity : goal.returns-in_err-identity
 returns-in_err-identity g c = λ plan. no_memory _ _ _ _ c.from_residual.result _ c.from_residual.ensures.1

@@ -10,4 +10,4 @@ use Rattle.cf_world_filter.proofs.placeholders.revert.Goals as goal
 
 pub returns : goal.returns
 returns g c =
-    λ plan. calls_step Answers scripts scripts_act g.D.Disk.state _ (revert c.as_str.result.now) _ _ _ _ _ _ _ _ _ (record { of = refl; stops = refl; needs = refl }) (λ P closed. revert_keeps P closed c.as_str.result.now) (λ z m. ap (λ (p : List ℕ). in_filter (revert p) z) (sym c.as_str.ensures)) c.new-notes.ensures c.revert-told.ensures.does c.revert-told.ensures.keeps c.number.ensures c.answered.ensures
+    λ plan. calls_step Answers scripts scripts_act g.G.Ground.state _ (revert c.as_str.result.now) _ _ _ _ _ _ _ _ _ (record { of = refl; stops = refl; needs = refl }) (λ P closed. revert_keeps P closed c.as_str.result.now) (λ z m. ap (λ (p : List ℕ). in_filter (revert p) z) (sym c.as_str.ensures)) c.new-notes.ensures c.revert-told.ensures.does c.revert-told.ensures.keeps c.number.ensures c.answered.ensures

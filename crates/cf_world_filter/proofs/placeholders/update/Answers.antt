@@ -11,4 +11,4 @@ use Rattle.cf_world_filter.proofs.placeholders.update.Goals as goal
 
 pub returns : goal.returns
 returns g c =
-    λ plan. calls_step Answers scripts scripts_act g.D.Disk.state _ (update c.as_str.result.now c.args.identity.now c.wide_size.result) _ _ _ _ _ _ _ _ _ (record { of = refl; stops = refl; needs = refl }) (λ P closed. update_keeps P closed c.as_str.result.now c.args.identity.now c.wide_size.result) (λ z m. ap (λ (s : Option ℕ). in_filter (update c.args.path.now c.args.identity.now s) z) (sym c.wide_size.ensures) ∙ ap (λ (p : List ℕ). in_filter (update p c.args.identity.now c.wide_size.result) z) (sym c.as_str.ensures)) c.new-notes.ensures c.update-told.ensures.does c.update-told.ensures.keeps c.number.ensures c.answered.ensures
+    λ plan. calls_step Answers scripts scripts_act g.G.Ground.state _ (update c.as_str.result.now c.args.identity.now c.wide_size.result) _ _ _ _ _ _ _ _ _ (record { of = refl; stops = refl; needs = refl }) (λ P closed. update_keeps P closed c.as_str.result.now c.args.identity.now c.wide_size.result) (λ z m. ap (λ (s : Option ℕ). in_filter (update c.args.path.now c.args.identity.now s) z) (sym c.wide_size.ensures) ∙ ap (λ (p : List ℕ). in_filter (update p c.args.identity.now c.wide_size.result) z) (sym c.as_str.ensures)) c.new-notes.ensures c.update-told.ensures.does c.update-told.ensures.keeps c.number.ensures c.answered.ensures

@@ -1,7 +1,7 @@
 use Rattle.std.proofs.Common.{subst}
 use Rattle.cf_engine.specs.Actors.{Syncing}
 use Rattle.cf_engine.specs.Engines.{Does}
-use Rattle.cf_filter_events.specs.declared.places.Running.{Running as Run}
+use Rattle.cf_filter_events.specs.declared.places.RunningOn.{RunningOn as Run}
 use Rattle.cf_engine.proofs.engines.SyncEngine.event.Goals as goal
 
 pub returns : goal.returns

@@ -1,6 +1,6 @@
 use Rattle.std.proofs.Common.{◌∙◌, ap}
 use Rattle.cf_engine.specs.Actors.{Syncing}
-use Rattle.cf_filter_events.specs.declared.places.Running.{Running as Run}
+use Rattle.cf_filter_events.specs.declared.places.RunningOn.{RunningOn as Run}
 use Rattle.cf_engine.proofs.Opened.{disk_back, link_back}
 use Rattle.cf_engine.proofs.engines.SyncEngine.into_parts.Goals as goal
 

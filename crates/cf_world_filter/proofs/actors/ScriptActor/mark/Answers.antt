@@ -10,4 +10,4 @@ use Rattle.cf_world_filter.proofs.actors.ScriptActor.mark.Goals as goal
 
 pub returns : goal.returns
 returns g c =
-    provides_step Answers scripts scripts_act g.D.Disk.state _ (mark c.as_str.result.now c.args.given) _ _ _ _ _ _ _ _ _ _ (record { of = refl; stops = refl; needs = refl }) (λ P closed. mark_keeps P closed c.as_str.result.now c.args.given) (λ z m. ap (λ (p : List ℕ). calling (mark p c.args.given) z) (sym c.as_str.ensures)) c.new-notes.ensures c.set_in_sync-told.ensures.does c.set_in_sync-told.ensures.keeps c.number.ensures c.answered.ensures
+    provides_step Answers scripts scripts_act g.G.Ground.state _ (mark c.as_str.result.now c.args.given) _ _ _ _ _ _ _ _ _ _ (record { of = refl; stops = refl; needs = refl }) (λ P closed. mark_keeps P closed c.as_str.result.now c.args.given) (λ z m. ap (λ (p : List ℕ). calling (mark p c.args.given) z) (sym c.as_str.ensures)) c.new-notes.ensures c.set_in_sync-told.ensures.does c.set_in_sync-told.ensures.keeps c.number.ensures c.answered.ensures

@@ -1,5 +1,0 @@
-use Rattle.cf_filter.proofs.Called.{asked, seen_both}
-use Rattle.cf_filter.proofs.filters.Filter.df.Goals as goal
-
-pub returns : goal.returns
-returns g c = asked g.D.Disk.state _ _ _ _ _ _ c.in_ok-check.ensures.ok (seen_both c.self.view_is c.df-told.ensures) c.blocks-2.ensures c.answer.ensures

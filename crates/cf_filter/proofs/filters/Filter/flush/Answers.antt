@@ -1,5 +1,0 @@
-use Rattle.cf_filter.proofs.Called.{called, seen_from}
-use Rattle.cf_filter.proofs.filters.Filter.flush.Goals as goal
-
-pub returns : goal.returns
-returns g c = called g.D.Disk.state _ _ _ _ _ _ _ _ c.in_ok-check.ensures.ok (seen_from c.self.view_is c.flush-told.ensures) c.count.ensures c.finish.ensures.answer c.finish.ensures.new

@@ -1,5 +1,0 @@
-use Rattle.cf_filter.proofs.Called.{called, seen_from}
-use Rattle.cf_filter.proofs.filters.Filter.open_file.Goals as goal
-
-pub returns : goal.returns
-returns g c = called g.D.Disk.state _ _ _ _ _ _ _ _ c.in_ok-check.ensures.ok (seen_from c.self.view_is c.open_file-told.ensures) c.handle.ensures c.finish.ensures.answer c.finish.ensures.new

@@ -1,0 +1,10 @@
+use Rattle.std.proofs.Common.{List, ap, sym, ℕ}
+use Rattle.cf_filter_events.proofs.Asked.{asks_step, info_never}
+use Rattle.cf_filter_events.proofs.Finished.{a_call}
+use Rattle.cf_model.specs.Calls.{info}
+use Rattle.cf_model.specs.State.{in_filter}
+use Rattle.cf_filter_events.proofs.places.RunningOn.info.Goals as goal
+
+pub returns : goal.returns
+returns g c =
+    asks_step g.A.Provider.answers g.A.Actor.acts g.met.A.Actor.actor g.G.Ground.state _ (info c.as_str.result.now) _ _ _ _ _ _ _ (a_call _ _) (info_never c.as_str.result.now) (λ z m. ap (λ (p : List ℕ). in_filter (info p) z) (sym c.as_str.ensures)) c.new.ensures c.info-told.ensures c.info.ensures c.answered.ensures

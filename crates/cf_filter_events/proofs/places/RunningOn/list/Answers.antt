@@ -1,0 +1,11 @@
+use Rattle.std.proofs.Common.{List, ap, sym, ℕ}
+use Rattle.cf_filter_events.proofs.Provided.{provides_step}
+use Rattle.cf_filter_events.proofs.Finished.{a_call}
+use Rattle.cf_model.proofs.WaitsKeep.{list_keeps}
+use Rattle.cf_model.specs.Callbacks.{calling}
+use Rattle.cf_model.specs.Waits.{list}
+use Rattle.cf_filter_events.proofs.places.RunningOn.list.Goals as goal
+
+pub returns : goal.returns
+returns g c =
+    provides_step g.A.Provider.answers g.A.Actor.acts g.met.A.Actor.actor g.G.Ground.state _ (list c.as_str.result.now) _ _ _ _ _ _ _ _ _ _ (a_call _ _) (λ P closed. list_keeps P closed c.as_str.result.now) (λ z m. ap (λ (p : List ℕ). calling (list p) z) (sym c.as_str.ensures)) c.new-notes.ensures c.list-told.ensures.does c.list-told.ensures.keeps c.waited.ensures c.answered.ensures
