@@ -183,18 +183,24 @@ vouched_one false true true = refl
 vouched_one false true false = refl
 vouched_one false false h = refl
 
-pub validate_bytes : (row new : Row) (s : Span) (all gaps vouched : List Span) (i : Item) → Adds [] all s → IsMissing row.here s gaps → CutsAll all vouched gaps → AddsAll row.valid new.valid vouched →
+-- what is vouched for, where the gaps of the span are left out
+pub vouched_for : (here valid new : List Span) (s : Span) (all gaps vouched : List Span) → Adds [] all s → IsMissing here s gaps → CutsAll all vouched gaps → AddsAll valid new vouched →
+    (p : ℕ) → contains new p ≡ (contains valid p || (in_span s p && contains here p))
+vouched_for here valid new s all gaps vouched adds missing cuts more p =
+    more p ∙ ap (λ b. contains valid p || b) (cuts p ∙ ap (λ b. b && not (contains gaps p)) (adds p) ∙ ap (λ b. (false || in_span s p) && not b) (missing p))
+    ∙ vouched_one (contains valid p) (in_span s p) (contains here p)
+
+pub validate_bytes : (row new : Row) (s : Span) (i : Item) → ((p : ℕ) → contains new.valid p ≡ (contains row.valid p || (in_span s p && contains row.here p))) →
     new.size ≡ row.size → new.anchor ≡ row.anchor → new.dirty ≡ row.dirty → new.dirty_since ≡ row.dirty_since →
     new.here ≡ row.here → new.modified ≡ row.modified → new.modified_since ≡ row.modified_since → HasBytes row i → HasBytes new (validated_in s.start s.len i)
-validate_bytes row new s all gaps vouched i adds missing cuts valid size anchor dirty dirty_since here modified since m = record {
+validate_bytes row new s i valid size anchor dirty dirty_since here modified since m = record {
   size = size ∙ m.size;
   even = length_validated s.start (s.start + s.len) 0 i.held i.valid ∙ m.even;
   numbers = m.numbers;
   dirty = dirty ∙ m.dirty;
   dirty_since = dirty_since ∙ m.dirty_since ∙ ap (λ a. not (is_empty (later_than a i.writes))) (sym anchor);
   here = λ p. ap (λ r. contains r p) here ∙ m.here p;
-  valid = λ p. valid p ∙ ap (λ b. contains row.valid p || b) (cuts p ∙ ap (λ b. b && not (contains gaps p)) (adds p) ∙ ap (λ b. (false || in_span s p) && not b) (missing p))
-      ∙ vouched_one (contains row.valid p) (in_span s p) (contains row.here p) ∙ ap (λ b. b || (in_span s p && contains row.here p)) (m.valid p) ∙ ap (λ b. is_valid i p || (in_span s p && b)) (m.here p)
+  valid = λ p. valid p ∙ ap (λ b. b || (in_span s p && contains row.here p)) (m.valid p) ∙ ap (λ b. is_valid i p || (in_span s p && b)) (m.here p)
       ∙ sym (validated_at s.start (s.start + s.len) 0 i.held i.valid p p m.even (omega arith));
   modified = λ p. ap (λ r. contains r p) modified ∙ m.modified p;
   modified_since = λ p. ap (λ r. contains r p) since ∙ m.modified_since p ∙ ap (λ a. is_modified_since a i p) (sym anchor);

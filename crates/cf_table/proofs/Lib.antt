@@ -13,6 +13,7 @@ pub mod FrontRows
 pub mod HeldBlocks
 pub mod Indexed
 pub mod IndexedAdds
+pub mod KeptParts
 pub mod Lengths
 pub mod MarkMeans
 pub mod Meaning

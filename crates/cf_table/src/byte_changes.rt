@@ -1,6 +1,7 @@
 //! Changes of a row by what happens to the bytes of its file.
 
-ghost use Rattle.std.specs.Prelude.{◌≡◌, ◌+◌, ◌^◌, ◌≤◌, ◌<◌, ℕ, List, length, OnOk, OnErr};
+ghost use Rattle.std.specs.Prelude.{◌≡◌, ◌+◌, ◌^◌, ◌≤◌, ◌<◌, ◌&&◌, ◌||◌, ℕ, List, length, IfOk, OnOk, OnErr};
+ghost use Rattle.cf_ranges.specs.Positions.{Adds, contains, in_span};
 ghost use Rattle.cf_base.specs.declared.limits.TheConstants.{MOST_FILE_BYTES};
 ghost use Rattle.cf_model.specs.Effects.{got, left_out, sized, validated_in, wrote};
 ghost use Rattle.cf_model.specs.Items.{Item};
@@ -11,7 +12,31 @@ use cf_base::{OutOfMemory, Span, Usn};
 use cf_ranges::RangeSet;
 use std::alloc::Global;
 
+// What is here and what is modified of a file in which a span is written.
+#[derive(Drop)]
+struct Written {
+    here: RangeSet,
+    modified: RangeSet,
+    modified_since: RangeSet,
+}
+
 impl Row {
+    fn written(&self, span: Span) -> Result<Written, OutOfMemory>
+        requires { span.start + span.len ≤ 2 ^ 40 }
+        ensures here { IfOk result (λ w. Adds self.now.here w.here span) }
+        ensures modified { IfOk result (λ w. Adds self.now.modified w.modified span) }
+        ensures modified_since { IfOk result (λ w. Adds self.now.modified_since w.modified_since span) }
+    {
+        let here = self.here.with(span)?;
+        let modified = self.modified.with(span)?;
+        let modified_since = self.modified_since.with(span)?;
+        Ok(Written {
+            here,
+            modified,
+            modified_since,
+        })
+    }
+
     /// A local write of `len` bytes at a place, ending by 16,777,216, with zeros from the old end to its start. Without
     /// memory the row is as before.
     pub fn write(&mut self, at: u64, len: u64, number: Usn) -> Result<(), OutOfMemory>
@@ -29,12 +54,10 @@ impl Row {
             start,
             len: end - start,
         };
-        let here = self.here.with(span)?;
-        let modified = self.modified.with(span)?;
-        let modified_since = self.modified_since.with(span)?;
-        self.here = here;
-        self.modified = modified;
-        self.modified_since = modified_since;
+        let written = self.written(span)?;
+        self.here = written.here;
+        self.modified = written.modified;
+        self.modified_since = written.modified_since;
         self.dirty = true;
         self.dirty_since = true;
         self.in_sync = false;
@@ -102,12 +125,10 @@ impl Row {
             start: self.size as u64,
             len: (size - self.size) as u64,
         };
-        let here = self.here.with(span)?;
-        let modified = self.modified.with(span)?;
-        let modified_since = self.modified_since.with(span)?;
-        self.here = here;
-        self.modified = modified;
-        self.modified_since = modified_since;
+        let written = self.written(span)?;
+        self.here = written.here;
+        self.modified = written.modified;
+        self.modified_since = written.modified_since;
         self.dirty = true;
         self.dirty_since = true;
         self.in_sync = false;
@@ -136,6 +157,17 @@ impl Row {
         Ok(())
     }
 
+    // What is valid with the bytes of a span that are here.
+    fn validated(&self, alloc: Global, span: Span) -> Result<RangeSet, OutOfMemory>
+        requires { span.start + span.len ≤ 2 ^ 40 }
+        ensures { IfOk result (λ v. (p : ℕ) → contains v p ≡ (contains self.now.valid p || (in_span span p && contains self.now.here p))) }
+    {
+        let gaps = self.here.missing_in(span)?;
+        let all = RangeSet::new(alloc).with(span)?;
+        let vouched = all.without_all(gaps.as_slice())?;
+        self.valid.with_all(vouched.runs())
+    }
+
     /// The provider vouches for the bytes of a span that are here. Without memory the row is as before.
     pub fn validate(&mut self, alloc: Global, span: Span) -> Result<(), OutOfMemory>
         requires { span.start + span.len ≤ 2 ^ 40 }
@@ -145,10 +177,7 @@ impl Row {
         ensures number { self.new.number ≡ self.old.number }
         ensures texts { KeepsTexts self.old self.new }
     {
-        let gaps = self.here.missing_in(span)?;
-        let all = RangeSet::new(alloc).with(span)?;
-        let vouched = all.without_all(gaps.as_slice())?;
-        let valid = self.valid.with_all(vouched.runs())?;
+        let valid = self.validated(alloc, span)?;
         self.valid = valid;
         Ok(())
     }

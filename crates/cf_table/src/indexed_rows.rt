@@ -58,10 +58,21 @@ pub(crate) fn push_indexed(
     ensures err { OnErr result ((rows.new ≡ rows.old) × (index.new ≡ index.old)) }
     ensures few { OnOk result (length rows.old < 2 ^ 63) }
 {
-    let entry = Entry::of(alloc, &row)?;
+    let entry = match Entry::of(alloc, &row) {
+        Ok(entry) => entry,
+        Err(memory) => {
+            drop(row);
+            return Err(memory);
+        }
+    };
     let place = rows.len();
-    let len = push_row(rows, row, len)?;
-    add_entry_at(rows, index, place, entry, len)
+    match push_row(rows, row, len) {
+        Ok(len) => add_entry_at(rows, index, place, entry, len),
+        Err(memory) => {
+            drop(entry);
+            Err(memory)
+        }
+    }
 }
 
 /// Puts a row in place of the one with its id, or between those with ids below and above, where `find_row` found its place.
@@ -150,8 +161,13 @@ fn replace_indexed(
     ensures err { OnErr result ((rows.new ≡ rows.old) × (index.new ≡ index.old)) }
     ensures few { OnOk result (length rows.old < 2 ^ 63) }
 {
-    set_entry_of(alloc, rows, index, place, &row)?;
-    Ok(replace_at(rows, place, row, len))
+    match set_entry_of(alloc, rows, index, place, &row) {
+        Ok(()) => Ok(replace_at(rows, place, row, len)),
+        Err(memory) => {
+            drop(row);
+            Err(memory)
+        }
+    }
 }
 
 fn insert_indexed(
@@ -170,9 +186,20 @@ fn insert_indexed(
     ensures err { OnErr result ((rows.new ≡ rows.old) × (index.new ≡ index.old)) }
     ensures few { OnOk result (length rows.old < 2 ^ 63) }
 {
-    let entry = Entry::of(alloc, &row)?;
-    let len = insert_at(rows, place, row, len)?;
-    add_entry_at(rows, index, place, entry, len)
+    let entry = match Entry::of(alloc, &row) {
+        Ok(entry) => entry,
+        Err(memory) => {
+            drop(row);
+            return Err(memory);
+        }
+    };
+    match insert_at(rows, place, row, len) {
+        Ok(len) => add_entry_at(rows, index, place, entry, len),
+        Err(memory) => {
+            drop(entry);
+            Err(memory)
+        }
+    }
 }
 
 /// Takes the row at a place out.

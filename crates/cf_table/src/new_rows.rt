@@ -7,6 +7,7 @@ ghost use Rattle.cf_model.specs.Numbers.{above, no_usn};
 ghost use Rattle.cf_table.specs.Means.{IsFresh, Means, starts_dirty};
 
 use crate::rows::{NO_USN, ROOT, Row};
+use crate::set_reads::Sets;
 use cf_base::{Blob, Identity, ItemId, Kind, OutOfMemory, Pin, Usn};
 use cf_ranges::{ExtentMap, RangeSet};
 use std::alloc::Global;
@@ -161,6 +162,26 @@ impl Row {
         }
     }
 
+    // The sets of a copy, all of whose writes are since.
+    fn sets_of_copy(&self, alloc: Global) -> Result<Sets, OutOfMemory>
+        ensures here { IfOk result (λ s. s.here ≡ self.now.here) }
+        ensures valid { IfOk result (λ s. s.valid ≡ self.now.valid) }
+        ensures modified { IfOk result (λ s. (s.modified ≡ self.now.modified) × (s.modified_since ≡ self.now.modified)) }
+        ensures extents { IfOk result (λ s. s.extents ≡ []) }
+    {
+        let here = self.here.copy()?;
+        let valid = self.valid.copy()?;
+        let modified = self.modified.copy()?;
+        let modified_since = self.modified.copy()?;
+        Ok(Sets {
+            here,
+            valid,
+            modified,
+            modified_since,
+            extents: ExtentMap::new(alloc),
+        })
+    }
+
     /// The row of a new placeholder file with the bytes, the base and the writes of this one. Its identity has no target.
     pub fn copied(&self, alloc: Global, place: Place) -> Result<Row, OutOfMemory>
         requires later { above place.number self.now.number ≡ true }
@@ -170,12 +191,13 @@ impl Row {
         ensures texts { IfOk result (λ r. (r.id ≡ place.id) × (r.name ≡ place.name) × (r.identity ≡ untargeted self.now.identity) × (r.number ≡ place.number)) }
     {
         let identity = without_target(alloc, self.identity.as_slice())?;
+        let sets = self.sets_of_copy(alloc)?;
         Ok(Row {
-            here: self.here.copy()?,
-            valid: self.valid.copy()?,
-            modified: self.modified.copy()?,
-            modified_since: self.modified.copy()?,
-            extents: ExtentMap::new(alloc),
+            here: sets.here,
+            valid: sets.valid,
+            modified: sets.modified,
+            modified_since: sets.modified_since,
+            extents: sets.extents,
             id: place.id,
             parent: place.parent,
             dir: self.dir,

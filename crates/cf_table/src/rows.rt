@@ -2,6 +2,7 @@
 
 ghost use Rattle.std.specs.Prelude.{◌≡◌, IfOk};
 
+use crate::set_reads::Sets;
 use cf_base::{Blob, Identity, ItemId, OutOfMemory, Pin, Usn};
 use cf_ranges::{ExtentMap, RangeSet};
 
@@ -52,18 +53,42 @@ pub const ROOT: ItemId = ItemId(1);
 pub const NO_USN: Usn = Usn { epoch: 0, place: 0 };
 
 impl Row {
+    fn copy_sets(&self) -> Result<Sets, OutOfMemory>
+        ensures here { IfOk result (λ s. s.here ≡ self.now.here) }
+        ensures valid { IfOk result (λ s. s.valid ≡ self.now.valid) }
+        ensures modified { IfOk result (λ s. s.modified ≡ self.now.modified) }
+        ensures modified_since { IfOk result (λ s. s.modified_since ≡ self.now.modified_since) }
+        ensures extents { IfOk result (λ s. s.extents ≡ self.now.extents) }
+    {
+        let here = self.here.copy()?;
+        let valid = self.valid.copy()?;
+        let modified = self.modified.copy()?;
+        let modified_since = self.modified_since.copy()?;
+        let extents = self.extents.copy()?;
+        Ok(Sets {
+            here,
+            valid,
+            modified,
+            modified_since,
+            extents,
+        })
+    }
+
     /// An equal row on its own.
     pub fn copy(&self) -> Result<Row, OutOfMemory>
         ensures { IfOk result (λ r. r ≡ self.now) }
     {
+        let name = self.name.copy()?;
+        let identity = self.identity.copy()?;
+        let sets = self.copy_sets()?;
         Ok(Row {
-            name: self.name.copy()?,
-            identity: self.identity.copy()?,
-            here: self.here.copy()?,
-            valid: self.valid.copy()?,
-            modified: self.modified.copy()?,
-            modified_since: self.modified_since.copy()?,
-            extents: self.extents.copy()?,
+            name,
+            identity,
+            here: sets.here,
+            valid: sets.valid,
+            modified: sets.modified,
+            modified_since: sets.modified_since,
+            extents: sets.extents,
             id: self.id,
             parent: self.parent,
             dir: self.dir,

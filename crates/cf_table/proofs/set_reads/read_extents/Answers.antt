@@ -19,3 +19,6 @@ loop-preserved c = record {
 
 pub returns-clause-extents : goal.returns-clause-extents
 returns-clause-extents c = extents_end _ _ c.loop.invariant.extents
+
+pub returns-in_err-push-clause-fault : goal.returns-in_err-push-clause-fault
+returns-in_err-push-clause-fault c = exits _ _ _ c.from_residual-in_err-push.ensures.1 (no_memory_for_extents 0 c.args.count (c.args.count - 1) _ (omega arith))

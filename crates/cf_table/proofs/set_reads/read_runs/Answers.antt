@@ -18,3 +18,6 @@ loop-preserved c = record {
 
 pub returns-clause-runs : goal.returns-clause-runs
 returns-clause-runs c = runs_end _ _ c.loop.invariant.runs
+
+pub returns-in_err-push-clause-fault : goal.returns-in_err-push-clause-fault
+returns-in_err-push-clause-fault c = exits _ _ _ c.from_residual-in_err-push.ensures.1 (no_memory_for_runs 0 c.args.count (c.args.count - 1) _ (omega arith))

@@ -1,5 +1,6 @@
 use Rattle.std.proofs.Common.{inl, inr}
 use Rattle.cf_table.proofs.ReadExit.{exits}
+use Rattle.cf_table.proofs.Taken.{takes_both}
 use Rattle.cf_table.proofs.set_reads.read_sets.Goals as goal
 
 pub returns-in_err-modified-clause-fault : goal.returns-in_err-modified-clause-fault
@@ -79,3 +80,21 @@ returns-in_err-extents-clause-fault c =
                 });
           });
     }))
+
+pub returns-in_err-here-clause-fault : goal.returns-in_err-here-clause-fault
+returns-in_err-here-clause-fault c = exits _ _ _ c.from_residual.ensures.1 (inl c.in_err-here.ensures.fault)
+
+pub returns-in_err-valid-clause-fault : goal.returns-in_err-valid-clause-fault
+returns-in_err-valid-clause-fault c =
+    exits _ _ _ c.from_residual-in_err-valid.ensures.1
+    (inr (record {
+      part = c.in_ok-here.here;
+      is_part = c.in_ok-here.ensures.fits;
+      mid = _;
+      takes = c.in_ok-here.ensures.took;
+      fault =
+          inl c.in_err-valid.ensures.fault;
+    }))
+
+pub returns-clause-took : goal.returns-clause-took
+returns-clause-took c = takes_both (takes_both (takes_both (takes_both c.in_ok-here.ensures.took c.in_ok-valid.ensures.took) c.in_ok-modified.ensures.took) c.in_ok-modified_since.ensures.took) c.in_ok-extents.ensures.took

@@ -10,4 +10,4 @@ returns-clause-means c = λ i m.
     (c.in_ok-identity.ensures ∙ ap untargeted c.as_slice.ensures)
     ∙ ap (λ (x : Told). record x { id = c.args.place.id; parent = c.args.place.parent; name = c.args.place.name; placeholder = true; identity = untargeted x.identity; pin = c.args.place.pin; in_sync = false; number = c.args.place.number; keep = false }) (told c.args.self.now i m))
     (copied_bytes c.args.self.now _ c.args.place.id c.args.place.parent c.args.place.name c.args.place.pin c.args.place.number i m.number c.requires.later
-    refl refl refl refl c.in_ok-copy.ensures c.in_ok-copy-2.ensures c.in_ok-copy-3.ensures c.in_ok-copy-4.ensures m.bytes)
+    refl refl refl refl c.in_ok-sets.ensures.here c.in_ok-sets.ensures.valid c.in_ok-sets.ensures.modified.0 c.in_ok-sets.ensures.modified.1 m.bytes)

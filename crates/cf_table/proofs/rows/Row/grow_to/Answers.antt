@@ -9,4 +9,4 @@ returns-clause-ok c = λ i m.
     let s : Span = record { start = c.args.self.now.size; len = c.args.size - c.args.self.now.size } in
     means _ _ (ap (λ (x : Told). record x { in_sync = false; number = c.args.number }) (told c.args.self.now i m))
     (grow_bytes c.args.self.now _ s c.args.size c.args.number i refl (omega (arith, c.requires.more)) c.requires.more m.number c.requires.later refl refl refl refl
-    c.in_ok-here.ensures refl c.in_ok-modified.ensures c.in_ok-modified_since.ensures m.bytes)
+    c.in_ok-written.ensures.here refl c.in_ok-written.ensures.modified c.in_ok-written.ensures.modified_since m.bytes)

@@ -1,4 +1,6 @@
-use Rattle.std.proofs.Common.{List, arith, subst, sym}
+use Rattle.std.proofs.Common.{◌<◌, List, arith, subst, sym}
+use Rattle.std.specs.Prelude.{All}
+use Rattle.cf_table.specs.Tables.{Table}
 use Rattle.std.proofs.lemmas.List.Elements.{All-push}
 use Rattle.cf_table.specs.Targets.{AreBounded, IsBounded}
 use Rattle.cf_table.specs.Unlisted.{is_unlisted}
@@ -19,3 +21,6 @@ invariant_of-self-2 c = record {
   root = c.raised-bound.ensures.root c.self.invariant.root;
   unlisted = count_pushed c.self.inside.unlisted c.unlisted-after.result c.args.row c.self.inside.rows c.push_indexed.new.rows c.self.invariant.unlisted c.unlisted-after.ensures c.in_ok-self-inside.ensures.adds;
 }
+
+pub push_indexed-requires-clause-above : goal.push_indexed-requires-clause-above
+push_indexed-requires-clause-above c = subst (λ (t : Table). All (λ r. r.id.0 < c.args.row.id.0) t.rows) (sym c.self.view_is) c.requires.new.1
