@@ -48,13 +48,13 @@ fn rows_left(
     requires { noted.now ≡ then.now.rows.rows }
     ensures { IfOk result (λ v. v.items ≡ rows_left then.now now.now.rows) }
 {
-    Ok(
-        noted
-            .iter()
-            .filter(|row| is_row_left(then, now, row))
-            .map(|row| row.id)
-            .collect(alloc)?,
-    )
+    let mut ids = Vec::new(alloc);
+    for row in noted {
+        if is_row_left(then, now, row) {
+            ids.push(row.id)?;
+        }
+    }
+    Ok(ids)
 }
 
 // The rows from an id on. By a binary search.
@@ -93,13 +93,13 @@ fn rows_gone(
     requires { noted.now ≡ then.now.rows.rows }
     ensures { IfOk result (λ v. v.items ≡ removed_rows then.now now.now.rows) }
 {
-    Ok(
-        noted
-            .iter()
-            .filter(|row| is_row_gone(then, now, row))
-            .map(|row| row.id)
-            .collect(alloc)?,
-    )
+    let mut ids = Vec::new(alloc);
+    for row in noted {
+        if is_row_gone(then, now, row) {
+            ids.push(row.id)?;
+        }
+    }
+    Ok(ids)
 }
 
 fn is_record_gone(then: &Earlier, now: &AuxRecords, aux: &AuxRecord) -> bool
