@@ -11,7 +11,7 @@ use std::marker::Model;
 const MOST: usize = 32;
 
 /// The places from `low` up to `high`, which is outside.
-#[derive(Clone, Copy, Debug, PartialEq, Eq)]
+#[derive(Clone, Copy)]
 pub(crate) struct Range {
     pub(crate) low: usize,
     pub(crate) high: usize,

@@ -1,6 +1,6 @@
 //! A disk in memory that keeps its past.
 
-ghost use Rattle.std.specs.Prelude.{◌≡◌, ◌<◌, ◌^◌, [], ℕ, None, Some, IfOk, replicate, length};
+ghost use Rattle.std.specs.Prelude.{◌≡◌, ◌<◌, ◌^◌, [], ℕ, None, Some, IfOk, replicate, length, true};
 ghost use Rattle.cf_disk.specs.Images.{IsWhole, durable};
 ghost use Rattle.cf_disk.specs.Trails.{run_calls, MovesOn};
 
@@ -35,6 +35,36 @@ pub struct TraceDisk {
     ghost same: { length medium.bytes ≡ length start.items },
     ghost small_faults: { faults < 2 ^ 64 },
     ghost small_written: { written < 2 ^ 64 },
+}
+
+// What a disk keeps of its past: the bytes at the last power cut, the calls since, and the power cuts.
+#[derive(Drop)]
+struct Past {
+    start: Vec<u8>,
+    calls: Calls,
+    powers: KeptPowers,
+}
+
+// The past of a disk of zeros.
+fn no_past(
+    alloc: Global,
+    size: usize,
+    calls: usize,
+    bytes: usize,
+    powers: usize,
+) -> Result<Past, OutOfMemory>
+    ensures start { IfOk result (λ p. p.start.items ≡ replicate size 0) }
+    ensures calls { IfOk result (λ p. p.calls ≡ record { calls = []; most = calls; most_bytes = bytes }) }
+    ensures powers { IfOk result (λ p. p.powers ≡ record { kept = []; size = size; most = powers; told = true }) }
+{
+    let start = zeros(alloc, size)?;
+    let calls = Calls::new(alloc, calls, bytes)?;
+    let powers = KeptPowers::new(alloc, size, powers)?;
+    Ok(Past {
+        start,
+        calls,
+        powers,
+    })
 }
 
 // How many moments lie before a power cut, where so many lay before the one before it.
@@ -80,17 +110,32 @@ impl TraceDisk {
         ensures powers { IfOk result (λ d. (trace_state d).powers ≡ Some []) }
         ensures room { IfOk result (λ d. (d.calls ≡ record { calls = []; most = calls; most_bytes = bytes }) × (d.powers.most ≡ powers)) }
     {
-        Ok(TraceDisk {
-            medium: Medium::new(alloc, size as usize)?,
-            start: zeros(alloc, size as usize)?,
-            calls: Calls::new(alloc, calls as usize, bytes as usize)?,
-            powers: KeptPowers::new(alloc, size as usize, powers as usize)?,
-            before: Some(0),
-            armed: None,
-            aim: None,
-            faults: 0,
-            written: 0,
-        })
+        let medium = Medium::new(alloc, size as usize)?;
+        match no_past(
+            alloc,
+            size as usize,
+            calls as usize,
+            bytes as usize,
+            powers as usize,
+        ) {
+            Ok(past) => {
+                Ok(TraceDisk {
+                    medium,
+                    start: past.start,
+                    calls: past.calls,
+                    powers: past.powers,
+                    before: Some(0),
+                    armed: None,
+                    aim: None,
+                    faults: 0,
+                    written: 0,
+                })
+            }
+            Err(memory) => {
+                drop(medium);
+                Err(memory)
+            }
+        }
     }
 }
 

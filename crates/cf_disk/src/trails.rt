@@ -7,7 +7,7 @@ use cf_base::OutOfMemory;
 use std::alloc::Global;
 use std::marker::Model;
 
-#[derive(Clone, Copy, Debug, PartialEq, Eq)]
+#[derive(Clone, Copy)]
 pub(crate) enum Kind {
     Read,
     Write,
@@ -15,7 +15,7 @@ pub(crate) enum Kind {
 }
 
 /// One call, without its bytes. A read that failed has none.
-#[derive(Clone, Copy, Debug, PartialEq, Eq)]
+#[derive(Clone, Copy)]
 pub(crate) struct Head {
     pub(crate) kind: Kind,
     pub(crate) at: u64,

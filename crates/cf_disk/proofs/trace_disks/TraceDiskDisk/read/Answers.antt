@@ -28,3 +28,17 @@ returns-clause-goes c =
       powers = refl;
       settings = refl;
     }
+
+pub returns-then-is_spent-clause-goes : goal.returns-then-is_spent-clause-goes
+returns-then-is_spent-clause-goes c =
+    let pushed = ap (λ (t : Trail). t.calls) c.push.ensures in
+    let start = durable c.args.self.now.start.items in
+    let calls = c.args.self.now.calls.calls in
+    let traced = traced_push start c.args.self.now.medium c.args.self.now.medium calls c.push.new.self.calls _ c.args.self.now.traced pushed refl in
+    record {
+      later = moment_push c.args.self.now.before calls c.push.new.self.calls _ pushed;
+      since = λ t image le left. since_push start c.args.self.now.medium calls c.push.new.self.calls _ pushed traced c.args.self.now.before t image left;
+      told = λ t le tells. (tells, λ image left. kept_push start c.args.self.now.medium calls c.push.new.self.calls _ pushed traced c.args.self.now.before t image left);
+      powers = refl;
+      settings = refl;
+    }
