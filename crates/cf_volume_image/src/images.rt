@@ -70,16 +70,30 @@ fn image_in(alloc: Global, r: &mut Reader, format: Format) -> Result<Draft, RowE
     read_format(r, format)?;
     let header = read_header(r, format)?;
     let rows = UnindexedRows::read_front(alloc, r, format)?;
-    let records = read_records(alloc, r)?;
-    r.end()?;
-    Ok(Draft {
-        last: header.last,
-        count: header.count,
-        clock: header.clock,
-        next: header.next,
-        rows,
-        records,
-    })
+    let records = match read_records(alloc, r) {
+        Ok(records) => records,
+        Err(error) => {
+            drop(rows);
+            return Err(error);
+        }
+    };
+    match r.end() {
+        Ok(()) => {
+            Ok(Draft {
+                last: header.last,
+                count: header.count,
+                clock: header.clock,
+                next: header.next,
+                rows,
+                records,
+            })
+        }
+        Err(error) => {
+            drop(rows);
+            drop(records);
+            Err(RowError::from(error))
+        }
+    }
 }
 
 /// Reads an image as `read_image` does, of which no row has an index yet.

@@ -83,10 +83,15 @@ pub fn read_contents(
     ensures none { IfErr result (λ e. IsKnown e → (state : Image) → IsContentsIn format image.now payloads.now clusters state → ⊥) }
 {
     let contents = read_spelled(alloc, image, payloads, format)?;
-    if is_sound(alloc, &contents, format, clusters)? {
-        Ok(contents)
-    } else {
-        drop(contents);
-        Err(ImageError::Unsound)
+    match is_sound(alloc, &contents, format, clusters) {
+        Ok(true) => Ok(contents),
+        Ok(false) => {
+            drop(contents);
+            Err(ImageError::Unsound)
+        }
+        Err(memory) => {
+            drop(contents);
+            Err(ImageError::from(memory))
+        }
     }
 }

@@ -124,9 +124,14 @@ fn change(draft: &mut Draft, changes: Changes) -> Result<(), OutOfMemory>
         records,
     } = changes;
     remove_rows(&mut draft.rows, &removed);
-    add_rows(&mut draft.rows, rows)?;
+    drop(removed);
     remove_records(&mut draft.records, &removed_keys);
-    add_records(&mut draft.records, records.as_slice())?;
+    drop(removed_keys);
+    let added = add_rows(&mut draft.rows, rows);
+    let put = add_records(&mut draft.records, records.as_slice());
+    drop(records);
+    added?;
+    put?;
     draft.next = header.next;
     draft.last = header.last;
     draft.count = header.count;

@@ -1,4 +1,6 @@
-use Rattle.std.proofs.Common.{inl, inr, refl}
+use Rattle.std.proofs.Common.{inl, inr, refl, subst, sym}
+use Rattle.cf_table.specs.Faults.{AtEnd}
+use Rattle.cf_table.specs.declared.failures.RowError.{RowError}
 use Rattle.cf_table.proofs.NoRow.{at_end}
 use Rattle.cf_table.proofs.ReadExit.{exits}
 use Rattle.cf_volume_image.specs.Contents.{read_header_of}
@@ -37,10 +39,9 @@ returns-in_err-rows-clause-fault c =
           });
     }))
 
-pub returns-in_err-records-clause-fault : goal.returns-in_err-records-clause-fault
-returns-in_err-records-clause-fault c =
-    exits _ _ _ c.from_residual-in_err-records.ensures.1
-    (inr (record {
+pub returns-in-Err-clause-fault : goal.returns-in-Err-clause-fault
+returns-in-Err-clause-fault c =
+    inr (record {
       part = format_byte c.args.format;
       is_part = refl;
       mid = _;
@@ -58,15 +59,14 @@ returns-in_err-records-clause-fault c =
                   mid = _;
                   takes = c.in_ok-rows.ensures.took;
                   fault =
-                      inl c.in_err-records.ensures.fault;
+                      inl c.in-Err.ensures.fault;
                 });
           });
-    }))
+    })
 
-pub returns-in_err-end-clause-fault : goal.returns-in_err-end-clause-fault
-returns-in_err-end-clause-fault c =
-    exits _ _ _ c.from_residual-in_err-end.ensures.1
-    (inr (record {
+pub returns-in-Err-end-clause-fault : goal.returns-in-Err-end-clause-fault
+returns-in-Err-end-clause-fault c =
+    inr (record {
       part = format_byte c.args.format;
       is_part = refl;
       mid = _;
@@ -86,20 +86,20 @@ returns-in_err-end-clause-fault c =
                   fault =
                       inr (record {
                         part = _;
-                        is_part = c.in_ok-records.ensures.fits;
+                        is_part = c.in-Ok.ensures.fits;
                         mid = _;
-                        takes = c.in_ok-records.ensures.took;
+                        takes = c.in-Ok.ensures.took;
                         fault =
-                            at_end _ _ c.in_err-end.ensures;
+                            subst (λ (e : RowError). AtEnd c.read_records.new.r e) (sym c.from.ensures) (at_end _ _ c.in-Err-end.ensures);
                       });
                 });
           });
-    }))
+    })
 
-pub returns-clause-room : goal.returns-clause-room
-returns-clause-room c = c.in_ok-rows.ensures.room
+pub returns-in-Ok-end-clause-room : goal.returns-in-Ok-end-clause-room
+returns-in-Ok-end-clause-room c = c.in_ok-rows.ensures.room
 
-pub returns-clause-took : goal.returns-clause-took
-returns-clause-took c =
+pub returns-in-Ok-end-clause-took : goal.returns-in-Ok-end-clause-took
+returns-in-Ok-end-clause-took c =
     image_taken c.args.format _ (read_header_of c.in_ok-header.header) _ _ _ _ _ refl
-    c.in_ok-read_format.ensures.took c.in_ok-header.ensures.took c.in_ok-rows.ensures.took c.in_ok-records.ensures.took c.in_ok-end.ensures
+    c.in_ok-read_format.ensures.took c.in_ok-header.ensures.took c.in_ok-rows.ensures.took c.in-Ok.ensures.took c.in-Ok-end.ensures

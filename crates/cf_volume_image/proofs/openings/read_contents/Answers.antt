@@ -11,13 +11,13 @@ returns-in_err-contents-clause-none c =
     exits _ _ _ c.from_residual.ensures.1
     (shows_none c.args.format c.args.image.now c.args.payloads.now c.args.clusters _ (as_cause c.args.format c.args.image.now c.args.payloads.now c.args.clusters _ c.in_err-contents.ensures.cause))
 
-pub returns-then-branch-clause-room : goal.returns-then-branch-clause-room
-returns-then-branch-clause-room c = told_room c.args.format c.args.image.now c.args.payloads.now c.in_ok-contents.contents c.in_ok-contents.ensures.told
+pub returns-in-Ok-true-clause-room : goal.returns-in-Ok-true-clause-room
+returns-in-Ok-true-clause-room c = told_room c.args.format c.args.image.now c.args.payloads.now c.in_ok-contents.contents c.in_ok-contents.ensures.told
 
-pub returns-else-branch-clause-none : goal.returns-else-branch-clause-none
-returns-else-branch-clause-none c =
+pub returns-in-Ok-false-clause-none : goal.returns-in-Ok-false-clause-none
+returns-in-Ok-false-clause-none c =
     shows_none c.args.format c.args.image.now c.args.payloads.now c.args.clusters image.Unsound (record {
       state = image_of c.in_ok-contents.contents;
       told = c.in_ok-contents.ensures.told;
-      unsound = λ u. let z : false ≡ true = sym c.if-branch.false ∙ c.in_ok-is_sound.ensures.1 u in absurd cc;
+      unsound = λ u. let z : false ≡ true = sym c.in-Ok-false.field-0-test ∙ c.in-Ok-false.ensures.1 u in absurd cc;
     })

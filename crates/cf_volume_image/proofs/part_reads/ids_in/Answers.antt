@@ -2,7 +2,7 @@ use Rattle.std.proofs.Common.{arith}
 use Rattle.cf_model.specs.Formats.{spell_id}
 use Rattle.cf_table.proofs.ReadExit.{exits}
 use Rattle.cf_table.proofs.ReadRuns.{one_less}
-use Rattle.cf_volume_image.proofs.ReadParts.{behind_id, count_more, each_taken, id_fault, ids_end, ids_then}
+use Rattle.cf_volume_image.proofs.ReadParts.{behind_id, count_more, each_taken, id_fault, ids_end, ids_then, no_memory_for_ids}
 use Rattle.cf_volume_image.proofs.part_reads.ids_in.Goals as goal
 
 pub returns-in_err-id-clause-fault : goal.returns-in_err-id-clause-fault
@@ -19,3 +19,6 @@ loop-preserved c = record {
 
 pub returns-clause-fits : goal.returns-clause-fits
 returns-clause-fits c = ids_end _ _ c.loop.invariant.fits
+
+pub returns-in_err-push-clause-fault : goal.returns-in_err-push-clause-fault
+returns-in_err-push-clause-fault c = exits _ _ _ c.from_residual-in_err-push.ensures.1 (no_memory_for_ids _ _ _)

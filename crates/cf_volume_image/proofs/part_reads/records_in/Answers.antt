@@ -4,7 +4,7 @@ use Rattle.cf_table.proofs.ReadExit.{exits}
 use Rattle.cf_table.proofs.ReadRuns.{one_less}
 use Rattle.cf_volume_image.specs.Faults.{AtRecordsFrom}
 use Rattle.cf_volume_image.specs.RecordLists.{last_key_of}
-use Rattle.cf_volume_image.proofs.ReadParts.{behind_record, count_more, each_taken, last_key_more, record_fault, records_end, records_then}
+use Rattle.cf_volume_image.proofs.ReadParts.{behind_record, count_more, each_taken, last_key_more, no_memory_for_records, record_fault, records_end, records_then}
 use Rattle.cf_volume_image.proofs.part_reads.records_in.Goals as goal
 
 pub returns-in_err-record-clause-fault : goal.returns-in_err-record-clause-fault
@@ -27,3 +27,6 @@ loop-preserved c =
 
 pub returns-clause-fits : goal.returns-clause-fits
 returns-clause-fits c = records_end _ c.loop.invariant.fits
+
+pub returns-in_err-push-clause-fault : goal.returns-in_err-push-clause-fault
+returns-in_err-push-clause-fault c = exits _ _ _ c.from_residual-in_err-push.ensures.1 (no_memory_for_records _ _ _)
