@@ -4,7 +4,7 @@ ghost use Rattle.std.specs.Prelude.{◌≡◌};
 ghost use Rattle.cf_scrub.specs.Texts.{kind_word};
 
 /// A kind of damage. What `Damage::at` counts goes by the kind.
-#[derive(Clone, Copy, Debug, PartialEq, Eq)]
+#[derive(Clone, Copy)]
 pub enum DamageKind {
     /// The size is none of a device: it is at the size.
     Size,
@@ -29,7 +29,7 @@ pub enum DamageKind {
 }
 
 /// One thing that is wrong with the bytes of a device.
-#[derive(Clone, Copy, Debug, PartialEq, Eq)]
+#[derive(Clone, Copy)]
 pub struct Damage {
     pub kind: DamageKind,
     /// A size, a byte, an item or a cluster, as the kind says.
