@@ -74,9 +74,6 @@ module _ (old mid new : State) (side : Side) (g e gate : ℕ) (image : List ℕ)
       size = (omega (arith, ready.size.0, records.same.size, (opened_same holds).size), omega (arith, ready.size.1, records.same.size, (opened_same holds).size));
     }
 
-    pub opened_clusters : Holds gate (1 ∷ []) mid.seen new.seen → clusters new.seen ≡ clusters old.seen
-    opened_clusters holds = behind new.seen (opened_same holds)
-
 -- whatever the disk stands for
 pub append_rest : (side : Side) (e gate : ℕ) (p old mid new : List ℕ) → gate ≡ base side + 1310720 + e → e + (6 + length p) ≤ 262144 → 3145728 ≤ length old → Records (gate + 1) p old mid → Holds gate (1 ∷ []) mid new → clusters new ≡ clusters old
 append_rest side e gate p old mid new gate_is fits size records holds =

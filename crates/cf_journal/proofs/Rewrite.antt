@@ -27,10 +27,6 @@ unfolding header
 header_generation e f g l m n h k fg fh is =
     sym (from_be_bytes-to_be_bytes_8 g fg) ∙ ap (λ (x : List ℕ). from_be_bytes w64 (take 8 (drop 7 x))) is ∙ from_be_bytes-to_be_bytes_8 h fh
 
-pub length-header : (f : Format) (g l m : ℕ) → length (header f g l m) ≡ 27
-unfolding header
-length-header f g l m = refl
-
 -- the next generation is newer
 pub next_beats : (side : Side) (g : ℕ) → 0 < g → g < 2 ^ 64 → Beats (other side) (next_of g) g
 next_beats A g pos lt = elim (cases_eq g 18446744073709551615) [ inl last ↦ grind (arith, nat_tests) | inr more ↦ grind (arith, nat_tests) ]

@@ -13,9 +13,6 @@ third a b c d at n k1 n1 k2 n2 k3 n3 f1 g1 f2 g2 f3 g3 l1 h1 l2 h2 l3 h3 =
     let one : Leaves a b (Near a at n) = leaves_weaker a b (Near a k1 n1) (Near a at n) (leaves_write a b k1 n1 f1 g1) (near_wider a at n k1 n1 l1 h1) in
     near_on a c d at n k3 n3 (near_on a b c at n k2 n2 one f2 g2 l2 h2) f3 g3 l3 h3
 
-same_by : (at n k1 n1 : ℕ) (x1 : List ℕ) (s0 s1 : List ℕ) → k1 + length x1 ≤ length s0 → Holds k1 x1 s0 s1 → at ≤ k1 → k1 + length x1 ≤ at + n → SameBut at n s0 s1
-same_by at n k1 n1 x1 s0 s1 room holds low high = same_wider at n k1 (length x1) s0 s1 (holds_same k1 x1 s0 s1 room holds) low high
-
 pub records : (at : ℕ) (b p s0 s1 s2 s3 s4 : List ℕ) → at + (5 + length p) ≤ length s0 → b ≡ to_be_bytes w32 (length p) → Holds at b s0 s1 → Holds (at + 4) p s1 s2 → Holds (at + 4 + length p) (0 ∷ []) s2 s3 → s4 ≡ s3 → Records at p s0 s4
 unfolding body
 records at b p s0 s1 s2 s3 s4 room b-is h1 h2 h3 same4 =

@@ -35,6 +35,13 @@ module _ (xs : List ℕ) (side : Side) (f : Format) (g len b : ℕ) (chosen : Ch
   pub image_read : image ≡ part (base side + 4096) (length image) xs
   image_read = at_base ∙ ap (λ (n : ℕ). part (base side + 4096) n xs) same_length
 
+-- the image and the journal stand on the disk
+pub image_stands : (side : Side) (f : Format) (g len b : ℕ) (xs ys : List ℕ) → Chosen f xs side g len → b ≡ base side → 3145728 ≤ length xs → ys ≡ xs → b + 4096 + len ≤ length ys
+image_stands side f g len b xs ys chosen b_is size same = omega (arith, image_room f len chosen.slot.short, base_low side, b_is, size, ap length same)
+
+pub journal_stands : (side : Side) (f : Format) (b at n : ℕ) → b ≡ base side → at ≡ journal_at f → n ≡ journal_len f → b + at + n ≤ 3145728
+journal_stands side f b at n b_is at_is n_is = omega (arith, journal_ends f, base_low side, b_is, at_is, n_is)
+
 pub journal_read : (xs : List ℕ) (side : Side) (f : Format) (b at n : ℕ) (bytes : List ℕ) → bytes ≡ part (b + at) n xs → b ≡ base side → at ≡ journal_at f → n ≡ journal_len f → bytes ≡ part (base side + journal_at f) (journal_len f) xs
 journal_read xs side f b at n bytes is b_is at_is n_is = is ∙ (λ i. part (b_is i + at_is i) (n_is i) xs)
 
