@@ -10,6 +10,11 @@ pub(crate) fn one(alloc: Global, change: Change) -> Result<Sequence<Change>, Out
     ensures { IfOk result (λ list. list ≡ change ∷ []) }
 {
     let mut list = Sequence::new(alloc);
-    list.push(change)?;
-    Ok(list)
+    match list.push(change) {
+        Ok(()) => Ok(list),
+        Err(memory) => {
+            drop(list);
+            Err(memory)
+        }
+    }
 }

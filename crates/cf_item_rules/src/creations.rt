@@ -132,9 +132,14 @@ fn made(
         identity: what.identity(alloc)?,
     };
     let mut changes = one(alloc, make)?;
-    if what.is_marked() {
-        let mark = Change::Mark { item, number: next };
-        changes.push(mark)?;
+    if !what.is_marked() {
+        return Ok(changes);
     }
-    Ok(changes)
+    match changes.push(Change::Mark { item, number: next }) {
+        Ok(()) => Ok(changes),
+        Err(memory) => {
+            drop(changes);
+            Err(memory)
+        }
+    }
 }

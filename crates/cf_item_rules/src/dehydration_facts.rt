@@ -1,7 +1,7 @@
 //! What a verdict is told, and what it is.
 
 /// What a verdict looks at. Sizes and places are in bytes; `start + len` may pass 2^64.
-#[derive(Clone, Copy, Debug, PartialEq, Eq)]
+#[derive(Clone, Copy)]
 pub struct Facts {
     /// The size of the file.
     pub size: u64,
@@ -18,7 +18,7 @@ pub struct Facts {
 }
 
 /// Whether a file may be dehydrated, or the first cause why not.
-#[derive(Clone, Copy, Debug, PartialEq, Eq)]
+#[derive(Clone, Copy)]
 pub enum Verdict {
     /// The range does not begin at a block inside the file, or does not reach its end.
     BadRange,

@@ -116,7 +116,10 @@ fn set_each(
                 item: *item,
                 pin: state,
             };
-            changes.push(change)?;
+            if let Err(memory) = changes.push(change) {
+                drop(changes);
+                return Err(memory);
+            }
         }
     }
     Ok(changes)
