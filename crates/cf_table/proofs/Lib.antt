@@ -27,6 +27,7 @@ pub mod ReadExit
 pub mod ReadRows
 pub mod ReadRuns
 pub mod RowOfItem
+pub mod RowSlots
 pub mod RowTaken
 pub mod RunsOf
 pub mod Searched

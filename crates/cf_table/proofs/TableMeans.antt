@@ -104,7 +104,7 @@ gap_is_without id [] a = refl
 gap_is_without id (x ∷ xs) a =
     cond-true (not (eqb x.id.0 id.0)) _ _ (ap not (ne_eqb x.id.0 id.0 (a zero x (omega arith)))) ∙ ap (λ v. x ∷ v) (gap_is_without id xs (λ j d lt e. a (suc j) d (omega arith) e))
 
-lower : (low high : ℕ) (rows : List Row) → low ≤ high → RisesFrom high rows → RisesFrom low rows
+pub lower : (low high : ℕ) (rows : List Row) → low ≤ high → RisesFrom high rows → RisesFrom low rows
 lower low high [] h r = tt
 lower low high (x ∷ xs) h r = (omega (arith, r.0), r.1)
 

@@ -7,6 +7,7 @@ pub mod Kinds
 pub mod Listed
 pub mod Means
 pub mod Reading
+pub mod Slots
 pub mod Spelling
 pub mod Tables
 pub mod Targets

@@ -79,18 +79,6 @@ map_with low row (r ∷ rs) h = elim (cases_lt r.id.0 row.id.0) [
   ]
 ]
 
-pub rises_with : (low : ℕ) (row : TableRow) (rows : List TableRow) → low ≤ row.id.0 → RisesFrom low rows → RisesFrom low (with_row row rows)
-rises_with low row [] le h = (le, tt)
-rises_with low row (r ∷ rs) le h = elim (cases_lt r.id.0 row.id.0) [
-  | inl less ↦ rw (lt-ltb r.id.0 row.id.0 less) (h.0, rises_with (r.id.0 + 1) row rs (omega (arith, less)) h.1)
-  | inr more ↦ elim (cases_lt row.id.0 r.id.0) [
-    | inl above ↦ rw (le-ltb r.id.0 row.id.0 more) (rw (ne_eqb r.id.0 row.id.0 (λ e. absurd (omega (arith, e, above)))) (le, (omega (arith, above), h.1)))
-    | inr same ↦
-        let e : r.id.0 ≡ row.id.0 = omega (arith, same, more) in
-        rw (le-ltb r.id.0 row.id.0 more) (rw (eq-eqb r.id.0 row.id.0 e) (le, subst (λ (n : ℕ). RisesFrom (n + 1) rs) e h.1))
-  ]
-]
-
 -- steps of loops
 
 pub none_removed : (xs : List Row) → without_rows [] xs ≡ xs
@@ -107,9 +95,6 @@ row_added more rest row rows new all is puts rises so =
     ap (λ l. model.with_rows (map row_value rest) (map row_value l)) puts
     ∙ ap (model.with_rows (map row_value rest)) (map_with 0 row rows rises)
     ∙ ap (λ l. model.with_rows (map row_value l) (map row_value rows)) (sym is) ∙ so
-
-pub rises_added : (row : TableRow) (rows new : List TableRow) → new ≡ with_row row rows → RisesFrom 0 rows → RisesFrom 0 new
-rises_added row rows new puts rises = subst (λ (l : List TableRow). RisesFrom 0 l) (sym puts) (rises_with 0 row rows (omega arith) rises)
 
 pub record_added : (more rest : List AuxRecord) (r copy : AuxRecord) (records new all : List AuxRecord) → more ≡ r ∷ rest → copy ≡ r → new ≡ model.with_record copy records →
     model.with_records more records ≡ all → model.with_records rest new ≡ all

@@ -103,8 +103,6 @@ fn add_rows(rows: &mut UnindexedRows, more: Vec<Row>) -> Result<(), OutOfMemory>
     requires { All HasRoom more.items }
     ensures { OnOk result (map row_value rows.new ≡ with_rows (map row_value more.items) (map row_value rows.old)) }
 {
-    // They stand in order of id.
-    let _ = rows.as_slice();
     for row in more {
         rows.put_row(row)?;
     }

@@ -1,6 +1,6 @@
 use Rattle.std.proofs.Common.{arith}
 use Rattle.cf_table.proofs.FrontRows.{front_in_order, front_more}
-use Rattle.cf_table.proofs.unindexed_rows.index_rows.Goals as goal
+use Rattle.cf_table.proofs.listed_rows.index_rows.Goals as goal
 
 pub add_entry-requires : goal.add_entry-requires
 add_entry-requires c = front_in_order c.args.rows.now c.loop-row.index c.loop-row.row-index c.requires c.loop-row.invariant
