@@ -17,21 +17,13 @@ fn stir(s: u64) -> u64
         .wrapping_add(1_442_695_040_888_963_407)
 }
 
-// One pending byte, by a number of the generator.
+// One pending byte, by a number of the generator. It is looked up: a branch on what is as good as random is guessed wrong too often.
 #[tactic(auto, unfolding(crate::specs::Images::mixed_byte))]
 fn pick(s: u64, synced: u8, written: u8) -> u8
     ensures { result ≡ mixed_byte s synced written }
 {
-    let choice = s / (1 << 62);
-    if choice == 0 {
-        synced
-    } else if choice == 1 {
-        written
-    } else if choice == 2 {
-        0
-    } else {
-        (s / (1 << 32) % 256) as u8
-    }
+    let bytes = [synced, written, 0, (s / (1 << 32) % 256) as u8];
+    bytes[(s / (1 << 62)) as usize]
 }
 
 // The pending bytes of a range by the generator, from a state to the one that is given.
