@@ -1,5 +1,5 @@
 -- Lists of chunks in which a chunk changes, comes or goes.
-use Rattle.std.proofs.Common.{◌≡◌, ℕ, zero, suc, ◌+◌, ◌<◌, true, false, cond, List, [], ◌∷◌, ◌++◌, Result, Ok, Err, is_ok, length, length-append, get_or, set, append_assoc, append-nil, refl, sym, ap, ◌∙◌, subst, arith}
+use Rattle.std.proofs.Common.{◌≡◌, ℕ, zero, suc, ◌+◌, ◌<◌, ◌≤◌, Bool, true, false, cond, eqb, List, [], ◌∷◌, ◌++◌, Result, Ok, Err, is_ok, length, length-append, get_or, set, append_assoc, append-nil, refl, sym, ap, ◌∙◌, subst, arith}
 use Rattle.std.specs.Prelude.{insert, remove, OnErr, OnOk}
 use Rattle.std.specs.Result.{IsOk}
 use Rattle.cf_collections.specs.Split.{AreFilled, flat}
@@ -18,11 +18,20 @@ inserted : {A E : Type 0} (r : Result (Unit {0}) E) (xs ys zs : List A) → IsOk
 inserted (Ok x) xs ys zs h e = e
 inserted (Err x) xs ys zs h e = let z : false ≡ true = h in cc
 
+pub some_items : (n : ℕ) (b : Bool) → b ≡ eqb n 0 → b ≡ false → 0 < n
+some_items zero b is unless = let z : true ≡ false = sym is ∙ unless in cc
+some_items (suc n) b is unless = omega arith
+
 module _ {T : Type 0} where
   pub filled_at : (cs : List (List T)) (n : ℕ) (d : List T) → AreFilled cs → n < length cs → 0 < length (get_or cs n d)
   filled_at [] n d f lt = absurd (omega arith)
   filled_at (c ∷ cs) zero d f lt = f.0
   filled_at (c ∷ cs) (suc n) d f lt = filled_at cs n d f.1 (omega arith)
+
+  -- no chunk is empty, so there are no more of them than items
+  pub few_chunks : (cs : List (List T)) → AreFilled cs → length cs ≤ length (flat cs)
+  few_chunks [] f = omega arith
+  few_chunks (c ∷ cs) f = omega (arith, f.0, few_chunks cs f.1, length-append c (flat cs))
 
   pub filled_set : (cs : List (List T)) (n : ℕ) (c : List T) → AreFilled cs → 0 < length c → AreFilled (set cs n c)
   filled_set [] n c f some = tt

@@ -1,6 +1,6 @@
 //! Lists in chunks.
 
-ghost use Rattle.std.specs.Prelude.{◌≡◌, ◌≤◌, ◌<◌, ◌++◌, ◌∷◌, [], List, length, OnErr, OnOk, get_or};
+ghost use Rattle.std.specs.Prelude.{◌≡◌, ◌≤◌, ◌<◌, ◌+◌, ◌++◌, ◌∷◌, [], List, length, IfOk, IfSome, OnErr, OnOk, get_or};
 ghost use Rattle.cf_collections.specs.Split.{AreFilled, behind, flat, front, IsSplit, rest};
 
 use crate::chunks::Chunk;
@@ -51,6 +51,16 @@ impl<T> ChunkedList<T> {
 }
 
 impl<T: Drop> ChunkedList<T> {
+    /// The list of these items. Up to 255 of them stay where they are.
+    pub fn from_vec(alloc: Global, items: Vec<T>) -> Result<ChunkedList<T>, OutOfMemory>
+        ensures { IfOk result (λ l. l ≡ items.items) }
+    {
+        let mut chunks = Vec::new(alloc);
+        push_chunk(&mut chunks, items)?;
+        halve_full(&mut chunks)?;
+        Ok(ChunkedList { chunks, alloc })
+    }
+
     /// Takes the first item out that does not come before the place, if there is one. Takes no memory.
     pub fn remove<P: Probe<T>>(&mut self, probe: &P)
         requires { IsSplit (P.is_behind probe.now) self.old }
@@ -92,10 +102,49 @@ fn halve_chunk<T: Drop>(chunks: &mut Vec<Chunk<T>>, place: usize) -> Result<(), 
     requires many { (d : List T) → 2 ≤ length (get_or chunks.old.items place d) }
     ensures same { flat chunks.new.items ≡ flat chunks.old.items }
     ensures filled { AreFilled chunks.new.items }
+    ensures more { OnOk result (length chunks.new.items ≡ length chunks.old.items + 1) }
 {
     chunks.reserve(1)?;
     let half = chunks[place].halve()?;
     chunks.insert(place + 1, half).unwrap();
+    Ok(())
+}
+
+// Adds the items at the end, as one chunk if there are any.
+fn push_chunk<T: Drop>(chunks: &mut Vec<Chunk<T>>, items: Vec<T>) -> Result<(), OutOfMemory>
+    requires { AreFilled chunks.old.items }
+    ensures ok { OnOk result (flat chunks.new.items ≡ flat chunks.old.items ++ items.items) }
+    ensures filled { AreFilled chunks.new.items }
+{
+    if items.is_empty() {
+        return Ok(());
+    }
+    chunks.push(Chunk::from_vec(items))?;
+    Ok(())
+}
+
+// The first chunk that is full.
+fn full_chunk<T: Drop>(chunks: &[Chunk<T>]) -> Option<usize>
+    ensures within { IfSome result (λ place. place < length chunks.now) }
+    ensures many { IfSome result (λ place. (d : List T) → 2 ≤ length (get_or chunks.now place d)) }
+{
+    for (place, chunk) in chunks.iter().enumerate() {
+        if chunk.is_full() {
+            return Some(place);
+        }
+    }
+    None
+}
+
+// Halves the chunks until none is full.
+fn halve_full<T: Drop>(chunks: &mut Vec<Chunk<T>>) -> Result<(), OutOfMemory>
+    requires { AreFilled chunks.old.items }
+    ensures same { flat chunks.new.items ≡ flat chunks.old.items }
+    ensures filled { AreFilled chunks.new.items }
+{
+    while let Some(place) = full_chunk(chunks) {
+        halve_chunk(chunks, place)?;
+    }
     Ok(())
 }
 

@@ -27,6 +27,13 @@ impl<T> Model for Chunk<T> {
 }
 
 impl<T> Chunk<T> {
+    /// These items, as many as there are.
+    pub(crate) fn from_vec(items: Vec<T>) -> Chunk<T>
+        ensures { result ≡ items.items }
+    {
+        Chunk { items }
+    }
+
     /// The items in order.
     pub(crate) fn as_slice(&self) -> &[T]
         ensures { result.now ≡ self.now }

@@ -9,7 +9,6 @@ pub mod EntrySets
 pub mod Fields
 pub mod Finds
 pub mod Formats
-pub mod FrontRows
 pub mod HeldBlocks
 pub mod Indexed
 pub mod IndexedAdds
@@ -31,6 +30,7 @@ pub mod RowSlots
 pub mod RowTaken
 pub mod RunsOf
 pub mod Searched
+pub mod SortedEntries
 pub mod StayingRows
 pub mod TableLens
 pub mod TableMeans

@@ -2,7 +2,7 @@
 use Rattle.std.proofs.Common.{◌≡◌, ◌∙◌, ◌+◌, ◌<◌, ◌≤◌, ◌++◌, ◌∷◌, ℕ, zero, suc, List, [], true, false, not, Bool, cond, Result, Ok, Err, IfOk, IfErr, ap, append_assoc, arith, eqb, get_or, length, ltb, refl, set, subst, sym}
 use Rattle.std.specs.List.Sorted.{IsBinarySearchResult, IsNonDecreasingBy, IsSearchInRange}
 use Rattle.std.specs.Ordering.{nat_cmp, ordering_index}
-use Rattle.std.specs.Prelude.{All, insert, map}
+use Rattle.std.specs.Prelude.{All, insert}
 use Rattle.std.proofs.lemmas.Bool.{cond-false, cond-true, eq-eqb, le-ltb, lt-ltb, ne_eqb}
 use Rattle.std.proofs.lemmas.List.{append-nil, get_or-map, length-map, map-set}
 use Rattle.std.proofs.lemmas.List.Elements.{All-cons, All-head, All-nil, All-tail}
@@ -14,7 +14,7 @@ use Rattle.cf_table.specs.declared.rows.Row.{Row}
 use Rattle.cf_table.specs.declared.slots.Slot.{Slot}
 use Rattle.cf_table.proofs.Bounded.{all_with}
 use Rattle.cf_table.proofs.Searched.{from_low, searched}
-use Rattle.cf_table.proofs.TableMeans.{at_tail, before, gap_tail, insert_is_with, kept_above, lower, not_there, rises_insert, rises_set, set_is_with}
+use Rattle.cf_table.proofs.TableMeans.{at_tail, before, gap_tail, insert_is_with, kept_above, lower, rises_insert, rises_set, set_is_with}
 
 abbrev pub slot_of : Row → Slot
 slot_of r = record { row = r; is_there = true }

@@ -34,7 +34,8 @@ impl Entry {
     }
 }
 
-fn order(entry: &Entry, parent: ItemId, name: &[u8], id: ItemId) -> Ordering
+/// How an entry stands to one of this parent, name and id.
+pub(crate) fn order(entry: &Entry, parent: ItemId, name: &[u8], id: ItemId) -> Ordering
     ensures { result ≡ compared entry.now (entry_at parent name.now id) }
 {
     let by_parent = entry.parent.0.cmp(&parent.0);

@@ -2,10 +2,10 @@
 
 ghost use Rattle.std.specs.Prelude.{◌≡◌, ◌<◌, ◌++◌, ◌∷◌, [], All, IfOk, OnErr, OnOk};
 ghost use Rattle.cf_table.specs.Applied.{IsSpellable};
-ghost use Rattle.cf_table.specs.Index.{index_of};
+ghost use Rattle.cf_table.specs.Index.{entries_of, index_of};
 ghost use Rattle.cf_table.specs.Tables.{RisesFrom};
 
-use crate::entries::{Entry, add_entry};
+use crate::entries::{Entry, order};
 use crate::listings::unlisted;
 use crate::row_lists::push_row;
 use crate::rows::{ROOT, Row};
@@ -39,17 +39,26 @@ impl Model for ListedRows {
     ghost invariant = { λ t. AreListed t.rows t.len t.bound t.unlisted };
 }
 
-// The index of rows that have none yet.
+// The entries of rows, in order of id.
+fn entries_of(alloc: Global, rows: &[Row]) -> Result<Vec<Entry>, OutOfMemory>
+    ensures { IfOk result (λ v. v.items ≡ entries_of rows.now) }
+{
+    let mut entries = Vec::with_capacity(alloc, rows.len())?;
+    for row in rows {
+        let entry = Entry::of(alloc, row)?;
+        entries.push(entry)?;
+    }
+    Ok(entries)
+}
+
+// The index of rows that have none yet: their entries, sorted at once.
 fn index_rows(alloc: Global, rows: &[Row]) -> Result<ChunkedList<Entry>, OutOfMemory>
     requires { RisesFrom 0 rows.now }
     ensures { IfOk result (λ i. i ≡ index_of rows.now) }
 {
-    let mut index = ChunkedList::new(alloc);
-    for row in rows {
-        let entry = Entry::of(alloc, row)?;
-        add_entry(&mut index, entry)?;
-    }
-    Ok(index)
+    let mut entries = entries_of(alloc, rows)?;
+    entries.sort_unstable_by(|a, b| order(a, b.parent, b.name.as_slice(), b.id));
+    ChunkedList::from_vec(alloc, entries)
 }
 
 impl ListedRows {

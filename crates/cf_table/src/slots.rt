@@ -45,10 +45,9 @@ fn replace_slot(slots: &mut Vec<Slot>, place: usize, row: Row)
     ensures slots { AreSlots slots.new.items }
     ensures puts { rows_there slots.new.items ≡ with_row row (rows_there slots.old.items) }
 {
-    slots[place] = Slot {
-        row,
-        is_there: true,
-    };
+    let slot = &mut slots[place];
+    slot.row = row;
+    slot.is_there = true;
 }
 
 fn insert_slot(slots: &mut Vec<Slot>, place: usize, row: Row) -> Result<(), OutOfMemory>

@@ -1,5 +1,5 @@
-use Rattle.std.proofs.Common.{ap, arith, sym, ◌∙◌}
-use Rattle.std.proofs.lemmas.List.{get_or_default, length-map}
+use Rattle.std.proofs.Common.{ap, ◌∙◌}
+use Rattle.std.proofs.lemmas.List.{get_or_default}
 use Rattle.cf_table.specs.declared.slots.Slot.{Slot}
 use Rattle.cf_table.proofs.RowSlots.{gone_slot, gone_slots, gone_there, slot_there}
 use Rattle.cf_table.proofs.slots.clear_slot.Goals as goal

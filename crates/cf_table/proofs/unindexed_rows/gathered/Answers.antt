@@ -1,9 +1,7 @@
-use Rattle.std.proofs.Common.{List, ap, arith, length, subst, sym, ◌≡◌, ◌∙◌, ◌∷◌}
+use Rattle.std.proofs.Common.{ap, arith, length, sym, ◌≡◌, ◌∙◌, ◌∷◌}
 use Rattle.std.specs.Vec.Iter.{into_iter_items}
 use Rattle.std.proofs.lemmas.List.{nil_from_length}
-use Rattle.cf_table.specs.Slots.{AreSlots}
-use Rattle.cf_table.specs.declared.slots.Slot.{Slot}
-use Rattle.cf_table.proofs.RowSlots.{IsGathered, all_gathered, gathered_first, next_above, next_spellable, one_gathered}
+use Rattle.cf_table.proofs.RowSlots.{all_gathered, gathered_first, next_above, next_spellable, one_gathered}
 use Rattle.cf_table.proofs.unindexed_rows.gathered.Goals as goal
 
 pub loop-slot-init : goal.loop-slot-init
