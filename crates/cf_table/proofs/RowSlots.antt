@@ -62,6 +62,12 @@ insert_there low (s ∷ ss) (suc k) row h gap = two s.is_there (insert_there (s.
   two true rest = ap (λ (v : List Row). s.row ∷ v) rest ∙ sym (cond-true (ltb s.row.id.0 row.id.0) _ _ (lt-ltb s.row.id.0 row.id.0 (gap.lower_before 0 s.row (omega arith))))
   two false rest = rest
 
+pub insert_last : (slots : List Slot) (k : ℕ) (s : Slot) → k ≡ length slots → slots ++ s ∷ [] ≡ insert slots k s
+insert_last [] zero s is = refl
+insert_last [] (suc k) s is = absurd (omega (arith, is))
+insert_last (x ∷ xs) zero s is = absurd (omega (arith, is))
+insert_last (x ∷ xs) (suc k) s is = ap (λ (v : List Slot). x ∷ v) (insert_last xs k s (omega (arith, is)))
+
 all_inserted : (slots : List Slot) (k : ℕ) (s : Slot) → all_rows (insert slots k s) ≡ insert (all_rows slots) k s.row
 all_inserted slots zero s = refl
 all_inserted [] (suc k) s = refl

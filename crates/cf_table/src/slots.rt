@@ -58,13 +58,15 @@ fn insert_slot(slots: &mut Vec<Slot>, place: usize, row: Row) -> Result<(), OutO
     ensures puts { OnOk result (rows_there slots.new.items ≡ with_row row (rows_there slots.old.items)) }
     ensures err { OnErr result (slots.new.items ≡ slots.old.items) }
 {
-    slots.insert(
-        place,
-        Slot {
-            row,
-            is_there: true,
-        },
-    )?;
+    let slot = Slot {
+        row,
+        is_there: true,
+    };
+    if place == slots.len() {
+        slots.push(slot)?;
+        return Ok(());
+    }
+    slots.insert(place, slot)?;
     Ok(())
 }
 
