@@ -75,8 +75,12 @@ fn empty_then<S: Steps>(s: &mut S, ask: &Ask) -> Result<Shown, CallError>
         start: ask.span.start,
         len: ask.span.len,
     };
-    make_changes(s, slice::from_ref(&change))?;
-    finish_now(s, ask, Cause::Emptied)
+    let made = make_changes(s, slice::from_ref(&change));
+    drop(change);
+    match made {
+        Ok(_) => finish_now(s, ask, Cause::Emptied),
+        Err(fail) => Err(fail),
+    }
 }
 
 // Consent to what the verdict allows. The span is one of a file, and so it is near.

@@ -62,11 +62,17 @@ fn make_with<S: Steps>(s: &mut S, changes: &[Change], step: Step) -> Result<(), 
     ensures { (id : ItemId) → Answers S.sense (MayAskBy id changes.now step) (with_step id changes.now) s.old result s.new }
 {
     match changes.first() {
-        Some(change) => {
-            change_copied(s, change)?;
-            settle_by(s, step)
+        Some(change) => match change_copied(s, change) {
+            Ok(_) => settle_by(s, step),
+            Err(fail) => {
+                drop(step);
+                Err(fail)
+            }
+        },
+        None => {
+            drop(step);
+            Ok(())
         }
-        None => Ok(()),
     }
 }
 
@@ -75,11 +81,18 @@ fn ask_on<S: Steps>(s: &mut S, id: ItemId, changes: &[Change]) -> Result<Option<
     ensures { Asks S.sense id changes.now s.old result s.new }
 {
     let step = look_with(s, id, changes)?;
-    match refuse_asking(s, changes, &step)? {
-        Some(code) => Ok(Some(code)),
-        None => {
+    match refuse_asking(s, changes, &step) {
+        Ok(Some(code)) => {
+            drop(step);
+            Ok(Some(code))
+        }
+        Ok(None) => {
             make_with(s, changes, step)?;
             Ok(None)
+        }
+        Err(_) => {
+            drop(step);
+            Err(CallError::OutOfMemory)
         }
     }
 }

@@ -56,7 +56,9 @@ fn move_now<S: Steps>(
         parent,
         name: name.copy()?,
     };
-    make_all(s, slice::from_ref(&change))
+    let made = make_all(s, slice::from_ref(&change));
+    drop(change);
+    made
 }
 
 fn rename_to<S: Steps>(

@@ -52,9 +52,16 @@ fn change_then<S: Steps>(s: &mut S, change: Change, step: Step) -> Result<Shown,
     requires { IsPlanned step (S.waiting s.old) }
     ensures { (item : ItemId) (d : Deed) → Answers S.sense (MayChangeBy item change d step) (changed_then item change d) s.old result s.new }
 {
-    s.change(change)?;
-    settle_by(s, step)?;
-    Ok(Shown::Done)
+    match s.change(change) {
+        Ok(_) => {
+            settle_by(s, step)?;
+            Ok(Shown::Done)
+        }
+        Err(fail) => {
+            drop(step);
+            Err(fail)
+        }
+    }
 }
 
 /// Makes a change that gives or takes bytes, and does the step after it, or tells why not: TableFull, Full, TooManyAsks
@@ -75,11 +82,13 @@ pub(crate) fn operate<S: Steps>(
     match refuse_change(s, &change, &step, counts) {
         Ok(Some(code)) => {
             drop(change);
+            drop(step);
             Ok(Shown::Refused(code))
         }
         Ok(None) => change_then(s, change, step),
         Err(_) => {
             drop(change);
+            drop(step);
             Err(CallError::OutOfMemory)
         }
     }

@@ -33,7 +33,11 @@ pub(crate) fn begin_limited<S: Steps>(s: &mut S, need: &Need) -> Result<Shown, C
     ensures { Answers S.sense (ReadsFile (meant need.now)) (begin_limited (meant need.now)) s.old result s.new }
 {
     match s.start(need) {
-        Ok(begun) => tell_begun(s, begun.0, &begun.1),
+        Ok(begun) => {
+            let told = tell_begun(s, begun.0, &begun.1);
+            drop(begun.1);
+            told
+        }
         Err(fail) => refused_by(fail),
     }
 }

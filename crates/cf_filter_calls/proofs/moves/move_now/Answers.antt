@@ -19,6 +19,6 @@ returns-in_err-copy g c = λ i p. with_err g.S.Steps.sense (MayMoveAt c.args.id 
     (no_memory g.S.Steps.sense (MayMoveAt c.args.id c.args.parent c.args.name.now i p) (changing (move_of i p) done) c.args.s.now)
 
 pub returns : goal.returns
-returns g c = moved_by g.S.Steps.sense c.args.id c.args.parent c.args.name.now c.stands_there.result c.from_ref.result.now c.args.s.now c.make_all-2.new.s c.make_all-2.result c.stands_there.ensures
+returns g c = moved_by g.S.Steps.sense c.args.id c.args.parent c.args.name.now c.stands_there.result c.from_ref.result.now c.args.s.now c.make_all-made.new.s c.make_all-made.result c.stands_there.ensures
     (c.from_ref.ensures.value ∙ ap (λ (name : List ℕ). change.Move c.args.id c.args.parent name ∷ []) c.in_ok-copy.ensures
-    ∙ ap (λ (b : Bool). when (not b) (change.Move c.args.id c.args.parent c.args.name.now ∷ [])) (sym c.if-stands_there.false)) c.make_all-2.ensures
+    ∙ ap (λ (b : Bool). when (not b) (change.Move c.args.id c.args.parent c.args.name.now ∷ [])) (sym c.if-stands_there.false)) c.make_all-made.ensures
