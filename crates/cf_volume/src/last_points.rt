@@ -1,6 +1,6 @@
 //! Rows and records put back as they were at the last point.
 
-ghost use Rattle.std.specs.Prelude.{◌≡◌, List, ℕ, None, cond, filter, map, nat_lt, not, All, IfOk, OnOk};
+ghost use Rattle.std.specs.Prelude.{◌≡◌, List, ℕ, None, cond, filter, map, nat_lt, not, IfOk, OnOk};
 ghost use Rattle.std.specs.List.{list_any};
 ghost use Rattle.cf_base.specs.declared.ids.ItemId.{ItemId};
 ghost use Rattle.cf_model.specs.Words.{same};
