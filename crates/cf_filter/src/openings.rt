@@ -8,8 +8,8 @@ use crate::filters::{Filter, FilterOn};
 use cf_base::{CallError, Policy};
 use cf_disk::Disk;
 use cf_filter_machine::{Desk, Machine, MachineOn};
-use cf_volume::Volume;
-use cf_volume_ground::DiskGround;
+use cf_volume::{Volume, VolumeOn};
+use cf_volume_ground::{DiskGround, Ground};
 use std::alloc::Global;
 
 fn arm_on<D: Disk>(machine: &mut Machine<D>, calls: u32)
@@ -19,6 +19,40 @@ fn arm_on<D: Disk>(machine: &mut Machine<D>, calls: u32)
     ensures desk { machine.new.desk ≡ machine.old.desk }
 {
     machine.volume.arm(calls);
+}
+
+impl<G: Ground> FilterOn<G> {
+    ghost use Rattle.std.specs.Prelude.{◌≡◌, false, ℕ, List};
+    ghost use Rattle.cf_base.specs.declared.changes.Change.{Change};
+    ghost use Rattle.cf_base.specs.declared.ids.Usn.{Usn};
+    ghost use Rattle.cf_filter_machine.specs.Keeping.{IsKeptVolume};
+    ghost use Rattle.cf_filter_machine.specs.Sensing.{Stands};
+    ghost use Rattle.cf_model.specs.Books.{Book};
+    ghost use Rattle.cf_model.specs.State.{new_filter, new_volume};
+    ghost use Rattle.cf_volume_points.specs.At.{At};
+    ghost use Rattle.cf_volume_points.specs.Standing.{opened};
+
+    /// A filter on a volume that was just made or opened, under this policy, with a provider connected: nothing is open and
+    /// nothing waits.
+    pub fn on_volume(alloc: Global, volume: VolumeOn<G>, policy: Policy) -> FilterOn<G>
+        ensures is { result ≡ record { disk = volume.disk; known = volume.known; desk = desk_at volume.known.epoch policy } }
+        ensures new { (clusters : ℕ) → volume.known.broken ≡ false → At (G.state volume.disk) volume.known (new_volume clusters) → Stands G.state result (new_filter (new_volume clusters) policy) }
+        ensures opened { (epoch : ℕ) (log : List (Usn × Change)) (b : Book) (clusters : ℕ) → volume.known.broken ≡ false → At (G.state volume.disk) volume.known (opened epoch log b clusters) → IsKeptVolume (opened epoch log b 0) → Stands G.state result (new_filter (opened epoch log b clusters) policy) }
+    {
+        let desk = Desk::new(alloc, volume.epoch(), policy);
+        FilterOn {
+            machine: MachineOn { volume, desk },
+        }
+    }
+
+    /// The volume. What stands in memory beside it is gone.
+    pub fn into_volume(self) -> VolumeOn<G>
+        ensures { result ≡ record { disk = self.disk; known = self.known } }
+    {
+        let MachineOn { volume, desk } = self.machine;
+        drop(desk);
+        volume
+    }
 }
 
 impl<D: Disk> FilterOn<DiskGround<D>> {
@@ -39,16 +73,6 @@ impl<D: Disk> FilterOn<DiskGround<D>> {
     ghost use Rattle.cf_volume_points.specs.Standing.{Standing, clusters_for, opened};
     ghost use Rattle.cf_volume.specs.Calls.{IsCause, IsRefused, Runs, StopsOnly};
     ghost use Rattle.cf_volume.specs.Openings.{IsOpenedFrom};
-
-    // A filter in which nothing is open and nothing waits.
-    fn on_volume(alloc: Global, volume: Volume<D>, policy: Policy) -> Filter<D>
-        ensures { result ≡ record { disk = volume.disk; known = volume.known; desk = desk_at volume.known.epoch policy } }
-    {
-        let desk = Desk::new(alloc, volume.epoch(), policy);
-        FilterOn {
-            machine: MachineOn { volume, desk },
-        }
-    }
 
     /// Makes a volume on a disk of a fit size, whatever that held, and opens it under this policy, with a provider
     /// connected. Device where a call of the disk failed, OutOfMemory where there is none; then the disk comes back.
