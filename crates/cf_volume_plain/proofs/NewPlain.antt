@@ -24,11 +24,18 @@ use Rattle.cf_volume_plain.proofs.PlainSteps.{size_is}
 use Rattle.cf_volume_plain.specs.Plains.{Blocks, plain_state}
 use Rattle.cf_volume_points.specs.At.{At}
 use Rattle.cf_volume_points.specs.Clusters.{IsGroundSize}
-use Rattle.cf_volume_points.specs.Standing.{clusters_on}
+use Rattle.cf_volume_points.specs.Standing.{clusters_for, clusters_on}
 
 -- three clusters for each that the volume may use
 pub new_long : (b : Blocks) (limit : ℕ) (aim : Option ℕ) → b ≡ record { bytes = replicate (4096 * (3 * limit)) 0; quota = limit; aim = aim } → length b.bytes ≡ 4096 * (3 * limit)
 new_long b limit aim is = ap (λ (x : Blocks). length x.bytes) is ∙ length-replicate {A = ℕ} (4096 * (3 * limit)) 0
+
+-- of which it may use a third
+pub new_clusters : (b : Blocks) (limit : ℕ) (aim : Option ℕ) → b ≡ record { bytes = replicate (4096 * (3 * limit)) 0; quota = limit; aim = aim } → clusters_for (plain_state b) ≡ limit
+new_clusters b limit aim is =
+    let quota : b.quota ≡ limit = ap (λ (x : Blocks). x.quota) is in
+    let long : length b.bytes ≡ 4096 * (3 * limit) = new_long b limit aim is in
+    omega (arith, quota, long, size_is b)
 
 -- clusters that are all free are those of a commit
 all_free : (n : ℕ) (uses : List Use) → Opens n [] uses → uses ≡ map committed uses

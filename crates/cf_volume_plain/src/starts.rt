@@ -8,6 +8,7 @@ ghost use Rattle.cf_volume.specs.Written.{IsAtPoint};
 ghost use Rattle.cf_volume_commit.specs.Loaded.{known_of};
 ghost use Rattle.cf_volume_plain.specs.Plains.{Blocks, plain_state};
 ghost use Rattle.cf_volume_points.specs.At.{At};
+ghost use Rattle.cf_volume_points.specs.Standing.{clusters_for};
 
 use crate::plains::Plain;
 use cf_base::{OutOfMemory, Usn};
@@ -46,6 +47,7 @@ pub fn start(alloc: Global, clusters: u32, aim: Option<u64>) -> Result<VolumeOn<
     ensures usable { IfOk result (λ w. w.known.broken ≡ false) }
     ensures noted { IfOk result (λ w. IsAtPoint w.known) }
     ensures aimed { IfOk result (λ w. w.disk.aim ≡ aim) }
+    ensures clusters { IfOk result (λ w. clusters_for (plain_state w.disk) ≡ clusters) }
 {
     let ground = Plain::new(alloc, 3 * clusters, clusters as u64, aim)?;
     let parts = first_parts(alloc, clusters)?;
