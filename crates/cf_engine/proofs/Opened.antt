@@ -30,7 +30,7 @@ module _ {D R : Type 0} (state : D → Disk) (told : R → Told) where
       record {
         mode = refl;
         quiet = ap (λ (k : Desk). k.notes) stands.desk;
-        disk = record { fit = subst IsFitSize (sym runs.size) fit; clusters = clusters ∙ sym (same_clusters (state d) (state x.disk) runs.size (same_quota (state d) (state x.disk) runs.settings)); powers = runs.powers ∙ sym powers };
+        disk = record { fit = λ leaves. subst IsFitSize (sym runs.size) fit; clusters = clusters ∙ sym (same_clusters (state d) (state x.disk) runs.size (same_quota (state d) (state x.disk) runs.settings)); powers = runs.powers ∙ sym powers };
         is = subst (λ (b : Bool). OnBy (acts_of told) state b (record { filter = x; actor = p }) s) (sym (ap (λ (k : Desk). k.broken) stands.desk)) on;
       }
 

@@ -97,7 +97,7 @@ module _ {D R : Type 0} (state : D → Disk) (told : R → Told) where
   Stepped past e s a ns y f next = SteppedTo mode.Replay (IsOn (acts_of told) state past) (event.Engine e) s (Ok (answer_with a ns)) (record { filter = y; actor = record { engine = f; next = next } })
 
   ended : (past : Past) (e : EngineEvent) (s t : State) (a : Shown) (ns : List Notice) (y : Held D) (f : Own R) (next : ℕ) → s.power ≡ On → next ≡ s.peer_tokens + 1 → y.desk.notes ≡ [] → y.desk.broken ≡ false
-      → Ends (engine_event e (begun s)) a t → IsDiskOf past (state y.disk) t.filter.volume → Means (sense state) told (noted ns y) f t → Stepped past e s a ns y f next
+      → Ends (engine_event e (begun s)) a t → IsDiskOf state past (state y.disk) t.filter.volume → Means (sense state) told (noted ns y) f t → Stepped past e s a ns y f next
   ended past e s t a ns y f next power is quiet whole ends disk m =
       let peers = peers_end e s t a ends in
       let stands : Stands told (record { engine = f; next = next }) t = record { held = record { link = m.sees.link; next = next_at next s t is peers }; volatile = m.volatile } in
@@ -111,7 +111,7 @@ module _ {D R : Type 0} (state : D → Disk) (told : R → Told) where
   -- the device stopped it
 
   stopped : (past : Past) (e : EngineEvent) (s t : State) (c : Code) (ns : List Notice) (x y : Held D) (f : Own R) (next : ℕ) → engine_needs e ≡ true → s.power ≡ On → next ≡ s.peer_tokens + 1 → y.desk.notes ≡ [] → y.desk.broken ≡ true
-      → c ≡ code.Device → Stops (engine_event e (begun s)) t → IsDiskOf past (state y.disk) t.filter.volume → states.Stopped (sense state) told x (noted ns y) f t → Stepped past e s (shown.Refused c) ns y f next
+      → c ≡ code.Device → Stops (engine_event e (begun s)) t → IsDiskOf state past (state y.disk) t.filter.volume → states.Stopped (sense state) told x (noted ns y) f t → Stepped past e s (shown.Refused c) ns y f next
   stopped past e s t c ns x y f next needs power is quiet cut device stops disk m =
       let peers = peers_stop e s t stops in
       let holds : Holds told (record { engine = f; next = next }) (broken t) = record { link = m.link; next = next_at next s t is peers } in
@@ -135,9 +135,9 @@ module _ {D R : Type 0} (state : D → Disk) (told : R → Told) where
   unfolding noted broken_by
   same_notes b stash w y is = ap (λ (z : Held D). z.desk.notes) is
 
-  disk_left : (past : Past) (x w y : Held D) (v t : Filter) → y.disk ≡ w.disk → IsDiskOf past (state x.disk) v.volume → Moved (state (noted [] x).disk) (state w.disk) v.volume t.volume → IsDiskOf past (state y.disk) t.volume
+  disk_left : (past : Past) (x w y : Held D) (v t : Filter) → y.disk ≡ w.disk → IsDiskOf state past (state x.disk) v.volume → Moved (state (noted [] x).disk) (state w.disk) v.volume t.volume → IsDiskOf state past (state y.disk) t.volume
   unfolding noted
-  disk_left past x w y v t same disk moved = subst (λ (d : D). IsDiskOf past (state d) t.volume) (sym same) (disk_moved past (state x.disk) (state w.disk) v.volume t.volume disk moved)
+  disk_left past x w y v t same disk moved = subst (λ (d : D). IsDiskOf state past (state d) t.volume) (sym same) (disk_moved state past (state x.disk) (state w.disk) v.volume t.volume disk moved)
 
   goes : (x w y : Held D) (v t : Filter) → y.disk ≡ w.disk → Moved (state (noted [] x).disk) (state w.disk) v.volume t.volume → GoesOn (state x.disk) (state y.disk)
   unfolding noted

@@ -60,7 +60,7 @@ module _ {D A : Type 0} (acts : Acts A) (state : D → Disk) where
   left_on : (past : Past) (x : Held D) (p q : A) (s t : State) → LeavesFilter s t → IsOn acts state past (record { filter = x; actor = p }) s → OnBy acts state x.desk.broken (record { filter = x; actor = q }) t → IsOn acts state past (record { filter = x; actor = q }) t
   left_on past x p q s t leaves on is =
       let volume : t.filter.volume ≡ s.filter.volume = ap (λ (f : Filter). f.volume) leaves.filter in
-      record { mode = leaves.mode ∙ on.mode; quiet = on.quiet; disk = subst (λ (v : Volume). IsDiskOf past (state x.disk) v) (sym volume) on.disk; is = is }
+      record { mode = leaves.mode ∙ on.mode; quiet = on.quiet; disk = subst (λ (v : Volume). IsDiskOf state past (state x.disk) v) (sym volume) on.disk; is = is }
 
   whole_left : (past : Past) (e : Event) (x : Held D) (p q : A) (s : State) (r : Result Answer NoMemory) → IsOn acts state past (record { filter = x; actor = p }) s → x.desk.broken ≡ false → OnBy acts state false (record { filter = x; actor = p }) s
       → LeavesTo acts.mode acts.stands e s r q → SteppedTo acts.mode (IsOn acts state past) e s r (record { filter = x; actor = q })

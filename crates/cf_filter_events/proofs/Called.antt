@@ -32,9 +32,9 @@ use Rattle.cf_model.specs.Trees.{Does, Tree}
 use Rattle.cf_filter_steps.specs.Answering.{After, Answers, Any}
 
 module _ {D : Type 0} (state : D → Disk) where
-  pub disk_left : (past : Past) (x y : Held D) (ns : List Notice) (v : Filter) (t : Filter) → IsDiskOf past (state x.disk) v.volume → Moved (state (noted [] x).disk) (state (noted ns y).disk) v.volume t.volume → IsDiskOf past (state y.disk) t.volume
+  pub disk_left : (past : Past) (x y : Held D) (ns : List Notice) (v : Filter) (t : Filter) → IsDiskOf state past (state x.disk) v.volume → Moved (state (noted [] x).disk) (state (noted ns y).disk) v.volume t.volume → IsDiskOf state past (state y.disk) t.volume
   unfolding noted
-  disk_left past x y ns v t disk moved = disk_moved past (state x.disk) (state y.disk) v.volume t.volume disk moved
+  disk_left past x y ns v t disk moved = disk_moved state past (state x.disk) (state y.disk) v.volume t.volume disk moved
 
 module _ {D A : Type 0} (answers : Answering A) (acts : Acts A) (actor : IsActor answers acts) (state : D → Disk) where
   left_to : (r : Result Shown CallError) (p : A) (x y : Held D) (z : State) (t : Filter) → acts.sees p z → After (sense state) x r y t → LeftTo answers acts actor state r p y (with_filter t z)

@@ -96,6 +96,10 @@ local_to : (r : Result Answer NoMemory) (before after : Told) → LinesTo r befo
 local_to (Ok a) before after h = local_faults (meets_remote a.shown) a before after refl h
 local_to (Err m) before after h = record {}
 
+-- an event that needs no volume
+pub beside_to : {A : Type 0} (acts : Acts A) (p q : A) (e : Event) (r a : Result Answer NoMemory) (s : State) → StepsBeside acts e p r q → a ≡ known_by false r → acts.holds p s → FaultsTo a (acts.remote p) (acts.remote q)
+beside_to acts p q e r a s beside is holds = subst (λ (w : Result Answer NoMemory). FaultsTo w (acts.remote p) (acts.remote q)) (sym is) (known_to false r (acts.remote p) (acts.remote q) (beside.faults s holds))
+
 module _ {D A : Type 0} (acts : Acts A) (state : D → Disk) where
   -- an event that the actor began
   pub begun_faults : (past : Past) (s : State) (e : Event) (n : Told) (x y : Run D A) (b : Bool) (r k a : Result Answer NoMemory) → acts.remote x.actor ≡ n → k ≡ known_by b r → a ≡ local_by k → StepsOn acts state e x r y → IsBegun acts state past x s → FaultsTo a n (acts.remote y.actor)
@@ -104,17 +108,9 @@ module _ {D A : Type 0} (acts : Acts A) (state : D → Disk) where
       let to = subst (λ (w : Result Answer NoMemory). LinesTo w n (acts.remote y.actor)) (sym known) (lines_known b r n (acts.remote y.actor) lines) in
       subst (λ (w : Result Answer NoMemory). FaultsTo w n (acts.remote y.actor)) (sym local) (local_to k n (acts.remote y.actor) to)
 
-  -- an event that needs no volume
-
-  beside_to : (p q : A) (e : Event) (r a : Result Answer NoMemory) (s : State) → StepsBeside acts e p r q → a ≡ known_by false r → acts.holds p s → FaultsTo a (acts.remote p) (acts.remote q)
-  beside_to p q e r a s beside is holds = subst (λ (w : Result Answer NoMemory). FaultsTo w (acts.remote p) (acts.remote q)) (sym is) (known_to false r (acts.remote p) (acts.remote q) (beside.faults s holds))
-
-  pub off_faults : (x : Cut D A) (q : A) (e : Event) (r a : Result Answer NoMemory) → StepsBeside acts e x.actor r q → a ≡ known_by false r → Faults (IsOff acts state) x a (acts.remote x.actor) (acts.remote q)
-  off_faults x q e r a beside is = record { failed = λ past s off. beside_to x.actor q e r a s beside is off.holds }
-
   pub on_faults : {answers : Answering A} (actor : IsActor answers acts) (x : Held D) (p q : A) (e : Event) (r a : Result Answer NoMemory) → StepsBeside acts e p r q → a ≡ known_by false r
       → Faults (IsOn acts state) (record { filter = x; actor = p }) a (acts.remote p) (acts.remote q)
-  on_faults {answers} actor x p q e r a beside is = record { failed = λ past s on. beside_to p q e r a s beside is (on_holds answers acts actor state past (record { filter = x; actor = p }) s on) }
+  on_faults {answers} actor x p q e r a beside is = record { failed = λ past s on. beside_to acts p q e r a s beside is (on_holds answers acts actor state past (record { filter = x; actor = p }) s on) }
 
   -- of the world
   pub faults_over : (x : Run D A) (r : Result Answer NoMemory) (before after : Told) → Faults (IsOn acts state) x r before after → Faults (Is acts state) (acting.On x) r before after

@@ -79,7 +79,7 @@ module _ {D A : Type 0} (answers : Answering A) (acts : Acts A) (actor : IsActor
   pub record Comes (past : Past) (e : Event) (s : State) (r : Result Shown CallError) (p : A) (ns : List Notice) (y : Held D) : Type 0 where
     pub new : State
     pub does : Does (tree_of e s) r new
-    pub disk : IsDiskOf past (state y.disk) new.filter.volume
+    pub disk : IsDiskOf state past (state y.disk) new.filter.volume
     pub left : LeftTo r p (noted ns y) new
 
   ended : (past : Past) (e : Event) (s : State) (b : Shown) (p : A) (ns : List Notice) (y : Held D) → IsCall acts.mode e → s.power ≡ On → y.desk.notes ≡ [] → y.desk.broken ≡ false

@@ -76,9 +76,9 @@ pub same_quota : (d e : Disk) → e.settings ≡ d.settings → e.settings.quota
 same_quota d e same = λ i. (same i).quota
 
 -- a call leaves the size and the power cuts of the disk, and the clusters of the volume
-pub disk_moved : (past : Past) (d e : Disk) (v w : Volume) → IsDiskOf past d v → Moved d e v w → IsDiskOf past e w
-disk_moved past d e v w h m = record {
-  fit = subst IsFitSize (sym m.runs.size) h.fit;
+pub disk_moved : {D : Type 0} (state : D → Disk) (past : Past) (d e : Disk) (v w : Volume) → IsDiskOf state past d v → Moved d e v w → IsDiskOf state past e w
+disk_moved state past d e v w h m = record {
+  fit = λ leaves. subst IsFitSize (sym m.runs.size) (h.fit leaves);
   clusters = m.grows.clusters ∙ h.clusters ∙ sym (same_clusters d e m.runs.size (same_quota d e m.runs.settings));
   powers = m.runs.powers ∙ h.powers;
 }

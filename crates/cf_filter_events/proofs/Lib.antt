@@ -9,6 +9,7 @@ pub mod Gained
 pub mod Hushed
 pub mod Hushing
 pub mod Later
+pub mod OffEvents
 pub mod Offs
 pub mod Powers
 pub mod Provided

@@ -1,17 +1,16 @@
 -- Events while the volume is off.
-use Rattle.std.proofs.Common.{◌≡◌, ℕ, ◌+◌, true, false, List, [], ◌∷◌, length, refl, sym, ap, subst, ◌∙◌}
+use Rattle.std.proofs.Common.{◌≡◌, ℕ, ◌+◌, List, [], ◌∷◌, length, refl, sym, ap, subst, ◌∙◌}
 use Rattle.std.specs.Prelude.{Err, Ok, Result}
-use Rattle.cf_filter_events.specs.Actors.{Acts, IsActor, LeavesFilter, LeavesTo, StepsBeside}
+use Rattle.cf_filter_events.specs.Actors.{Acts, IsActor, LeavesFilter, LeavesTo}
 use Rattle.cf_filter_events.specs.Answered.{answer_with}
-use Rattle.cf_filter_events.specs.Counted.{known_by}
-use Rattle.cf_filter_events.specs.Meaning.{Is, IsDiskOf, IsOfEpoch, IsOff}
+use Rattle.cf_filter_events.specs.Counted.{StepsOff}
+use Rattle.cf_filter_events.specs.Meaning.{Is, IsDiskOf, IsOfEpoch, IsOff, LeavesWhatReads}
 use Rattle.cf_filter_events.specs.Pasts.{Past}
 use Rattle.cf_filter_events.specs.Stepped.{SteppedTo, Steps, StepsOver}
 use Rattle.cf_filter_events.specs.declared.places.Acting.{Acting}
 use Rattle.cf_filter_events.specs.declared.places.Acting.TheVariants as acting
 use Rattle.cf_filter_events.specs.declared.places.Cut.{Cut}
-use Rattle.cf_filter_events.proofs.Counted.{known_steps}
-use Rattle.cf_filter_events.proofs.Finished.{device_of, off_step}
+use Rattle.cf_filter_events.proofs.Finished.{device_of}
 use Rattle.cf_filter_events.proofs.Hushed.{same_quota}
 use Rattle.cf_filter_events.proofs.Powers.{disk_again, disk_cut, left_by, one_gained}
 use Rattle.cf_base.specs.declared.answers.Answer.{Answer}
@@ -26,7 +25,7 @@ use Rattle.cf_engine_host.specs.Callbacks.{Answering}
 use Rattle.cf_disk.specs.Disk.{IsUnchanged, Only, Powers, State as Disk, aimed_at, size_of}
 use Rattle.cf_journal.specs.Settled.{IsFitSize}
 use Rattle.cf_model.proofs.TraceLaws.{ended_step}
-use Rattle.cf_model.specs.Events.{begun, is_of, needs_volume}
+use Rattle.cf_model.specs.Events.{begun}
 use Rattle.cf_model.specs.Restarts.{crashed}
 use Rattle.cf_model.specs.State.{Filter, Off, State}
 
@@ -39,7 +38,7 @@ module _ {D A : Type 0} (acts : Acts A) (state : D → Disk) where
     power = power;
     holds = holds;
     policy = policy ∙ off.policy ∙ sym same;
-    disk = subst (λ (v : _). IsDiskOf past (state y.disk) v) (sym volume) (disk_again past (state x.disk) (state y.disk) s.filter.volume size quota powers off.disk);
+    disk = subst (λ (v : _). IsDiskOf state past (state y.disk) v) (sym volume) (disk_again state past (state x.disk) (state y.disk) s.filter.volume size quota powers off.disk);
     point = off.point;
     opens = rw volume off.opens;
     newest = λ so. rw volume (off.newest (sym whole ∙ so));
@@ -50,10 +49,7 @@ module _ {D A : Type 0} (acts : Acts A) (state : D → Disk) where
     left = rw volume off.left;
   }
 
-  pub off_refuses : (e : Event) (x : Cut D A) → is_of acts.mode e ≡ true → needs_volume e ≡ true → Steps acts.mode (IsOff acts state) e x (Ok (answer_with (shown.Refused code.Off) [])) x
-  off_refuses e x of needs = record { leads = λ past s off. (s, off_step acts.mode e s of needs off.power, off) }
-
-  -- an event that needs no volume
+  -- an event that is none of the device
   off_left : (past : Past) (x y : Cut D A) (s t : State) → y.policy ≡ x.policy → y.whole ≡ x.whole → y.disk ≡ x.disk → LeavesFilter s t → acts.holds y.actor t → IsOff acts state past x s → IsOff acts state past y t
   off_left past x y s t policy whole disk leaves holds off =
       let size : size_of (state y.disk) ≡ size_of (state x.disk) = ap (λ (d : D). size_of (state d)) disk in
@@ -67,12 +63,12 @@ module _ {D A : Type 0} (acts : Acts A) (state : D → Disk) where
   off_stepped past e x y s (Ok a) policy whole disk off h = (h.0, h.1, off_left past x y s h.0 policy whole disk h.2 h.3 off)
   off_stepped past e x y s (Err k) policy whole disk off h = record {}
 
-  pub off_beside : (e : Event) (x y : Cut D A) (r a : Result Answer NoMemory) → y.policy ≡ x.policy → y.whole ≡ x.whole → y.disk ≡ x.disk → StepsBeside acts e x.actor r y.actor → a ≡ known_by false r → Steps acts.mode (IsOff acts state) e x a y
-  off_beside e x y r a policy whole disk beside is = record { leads = λ past s off. known_steps acts.mode (IsOff acts state past) e s y false r a is (off_stepped past e x y s r policy whole disk off (beside.held s off.mode off.holds)) }
+  pub off_acts : (e : Event) (x y : Cut D A) (r : Result Answer NoMemory) → y.policy ≡ x.policy → y.whole ≡ x.whole → y.disk ≡ x.disk → StepsOff acts e x.actor r y.actor → Steps acts.mode (IsOff acts state) e x r y
+  off_acts e x y r policy whole disk h = record { leads = λ past s off. off_stepped past e x y s r policy whole disk off (h.leads s off.mode off.power off.holds) }
 
   -- a volume stands on no disk of such a size
-  pub unfit_step : (e : Event) (x : Cut D A) (y : Acting D A) (r : Result Answer NoMemory) → (IsFitSize (size_of (state x.disk)) → ⊥) → StepsOver acts.mode (Is acts state) e (acting.Off x) r y
-  unfit_step e x y r never = record { leads = λ past s off. absurd (never off.disk.fit) }
+  pub unfit_step : (e : Event) (x : Cut D A) (y : Acting D A) (r : Result Answer NoMemory) → LeavesWhatReads state → (IsFitSize (size_of (state x.disk)) → ⊥) → StepsOver acts.mode (Is acts state) e (acting.Off x) r y
+  unfit_step e x y r leaves never = record { leads = λ past s off. absurd (never (off.disk.fit leaves)) }
 
 module _ {D A : Type 0} (answers : Answering A) (acts : Acts A) (actor : IsActor answers acts) (state : D → Disk) where
   -- the actor that is left holds as before
@@ -103,7 +99,7 @@ module _ {D A : Type 0} (answers : Answering A) (acts : Acts A) (actor : IsActor
         power = refl;
         holds = held_on x y s (crashed (begun s)) kept refl refl off.holds;
         policy = policy ∙ off.policy;
-        disk = disk_cut past choice (state x.disk) (state y.disk) s.filter.volume powers off.disk;
+        disk = disk_cut state past choice (state x.disk) (state y.disk) s.filter.volume powers off.disk;
         point = off.point;
         opens = off.opens;
         newest = λ so. off.newest (sym whole ∙ so);

@@ -40,12 +40,12 @@ abbrev pub left_by : Disk → Past
 left_by d = record { told = d.powers; last = Some d.seen }
 
 -- a disk of the same size and quota that had no power cut
-pub disk_again : (past : Past) (d e : Disk) (v : Volume) → size_of e ≡ size_of d → e.settings.quota ≡ d.settings.quota → e.powers ≡ d.powers → IsDiskOf past d v → IsDiskOf past e v
-disk_again past d e v same quota still h = record { fit = subst IsFitSize (sym same) h.fit; clusters = h.clusters ∙ sym (same_clusters d e same quota); powers = still ∙ h.powers }
+pub disk_again : {D : Type 0} (state : D → Disk) (past : Past) (d e : Disk) (v : Volume) → size_of e ≡ size_of d → e.settings.quota ≡ d.settings.quota → e.powers ≡ d.powers → IsDiskOf state past d v → IsDiskOf state past e v
+disk_again state past d e v same quota still h = record { fit = λ leaves. subst IsFitSize (sym same) (h.fit leaves); clusters = h.clusters ∙ sym (same_clusters d e same quota); powers = still ∙ h.powers }
 
 -- and one that had a power cut
-pub disk_cut : (past : Past) (choice : Choice) (d e : Disk) (v : Volume) → Powers choice d e → IsDiskOf past d v → IsDiskOf (left_by e) e v
-disk_cut past choice d e v powers h = record { fit = subst IsFitSize (sym powers.size) h.fit; clusters = h.clusters ∙ sym (same_clusters d e powers.size (same_quota d e powers.settings)); powers = refl }
+pub disk_cut : {D : Type 0} (state : D → Disk) (past : Past) (choice : Choice) (d e : Disk) (v : Volume) → Powers choice d e → IsDiskOf state past d v → IsDiskOf state (left_by e) e v
+disk_cut state past choice d e v powers h = record { fit = λ leaves. subst IsFitSize (sym powers.size) (h.fit leaves); clusters = h.clusters ∙ sym (same_clusters d e powers.size (same_quota d e powers.settings)); powers = refl }
 
 pub lasting_again : (d e : Disk) (v : Volume) → IsUnchanged d e → Lasts d v → Lasts e v
 lasting_again d e v same h = λ c left. h c (same.crash c left)
@@ -70,7 +70,7 @@ one_gained past choice d e told powers = (e.powers, subst (λ (o : Option (List 
 
 module _ {D A : Type 0} (answers : Answering A) (acts : Acts A) (actor : IsActor answers acts) (state : D → Disk) where
   -- an event without notes that leaves the volume
-  begins_on : (past : Past) (x : Run D A) (s : State) → IsOn acts state past x s → IsOn acts state past x (begun s)
+  pub begins_on : (past : Past) (x : Run D A) (s : State) → IsOn acts state past x s → IsOn acts state past x (begun s)
   begins_on past x s on = record { mode = on.mode; quiet = on.quiet; disk = record { fit = on.disk.fit; clusters = on.disk.clusters; powers = on.disk.powers }; is = by x.filter.desk.broken on.is }
     where
       by : (b : Bool) → OnBy acts state b x s → OnBy acts state b x (begun s)
@@ -103,7 +103,7 @@ module _ {D A : Type 0} (answers : Answering A) (acts : Acts A) (actor : IsActor
       record {
         mode = on.mode;
         quiet = ap (λ (d : Desk). d.notes) desk ∙ on.quiet;
-        disk = disk_again past (state x.disk) (state y.disk) s.filter.volume (ap length same.seen) (same_quota (state x.disk) (state y.disk) same.settings) same.powers on.disk;
+        disk = disk_again state past (state x.disk) (state y.disk) s.filter.volume (ap length same.seen) (same_quota (state x.disk) (state y.disk) same.settings) same.powers on.disk;
         is = subst (λ (b : Bool). OnBy acts state b (record { filter = y; actor = p }) (begun s)) (sym (ap (λ (d : Desk). d.broken) desk)) (by s x.desk.broken on.is);
       },
     );
@@ -114,7 +114,7 @@ module _ {D A : Type 0} (answers : Answering A) (acts : Acts A) (actor : IsActor
       by s false h = (h.0, actor.stands_on p s (begun s) (record { plan = refl; link = refl; volatile = refl; tokens = refl }) h.1, stands (hushed s.filter) h.2)
 
   -- what the power cut leaves stands for a point
-  pub cut_off : (past : Past) (x : D) (y : Cut D A) (choice : Choice) (s : State) → s.mode ≡ acts.mode → acts.holds y.actor s → IsDiskOf past (state x) s.filter.volume → y.policy ≡ s.filter.policy → (at : IsOfPoint s.filter.volume (state y.disk).seen)
+  pub cut_off : (past : Past) (x : D) (y : Cut D A) (choice : Choice) (s : State) → s.mode ≡ acts.mode → acts.holds y.actor s → IsDiskOf state past (state x) s.filter.volume → y.policy ≡ s.filter.policy → (at : IsOfPoint s.filter.volume (state y.disk).seen)
       → (y.whole ≡ true → IsNewest at.point s.filter.volume.points) → Only (state y.disk).seen (state y.disk) → Powers choice (state x) (state y.disk) → IsOff acts state (left_by (state y.disk)) y (crashed (begun s))
   cut_off past x y choice s mode holds disk policy at newest only powers =
       record {
@@ -122,7 +122,7 @@ module _ {D A : Type 0} (answers : Answering A) (acts : Acts A) (actor : IsActor
         power = refl;
         holds = actor.holds_on y.actor s (crashed (begun s)) refl refl holds;
         policy = policy;
-        disk = disk_cut past choice (state x) (state y.disk) s.filter.volume powers disk;
+        disk = disk_cut state past choice (state x) (state y.disk) s.filter.volume powers disk;
         point = at.point;
         opens = at.opens;
         newest = newest;

@@ -105,7 +105,7 @@ epoch_of_some n zero h = inl refl
 epoch_of_some n (suc k) h = inr (subst (λ (m : ℕ). IsIn m (counting 1 n)) (let e : 1 + k ≡ suc k = omega arith in e) (in_counting 1 n k (omega (arith, h))))
 
 -- a restart that opens this point, so many epochs on
-restarts : (p : Point) (k : ℕ) (s : State) → s.power ≡ Off → Opens s.filter.volume.points p → k ≤ s.failed_opens → s.filter.volume.epoch + 1 + k ≤ most
+pub restarts : (p : Point) (k : ℕ) (s : State) → s.power ≡ Off → Opens s.filter.volume.points p → k ≤ s.failed_opens → s.filter.volume.epoch + 1 + k ≤ most
     → Ends (tree_of (event.Device device.Restart) s) (resumed p) (with_opened p (s.filter.volume.epoch + 1 + k) (begun s))
 restarts p k s power opens few fits =
     let low : nat_lt most (s.filter.volume.epoch + 1 + k) ≡ false = not_less most (s.filter.volume.epoch + 1 + k) fits in
@@ -114,7 +114,7 @@ restarts p k s power opens few fits =
     subst (λ (w : Power). Ends (restart_by w (begun s)) (resumed p) (with_opened p (s.filter.volume.epoch + 1 + k) (begun s))) (sym power)
     (ends_points p (reverse s.filter.volume.points) (begun s) (with_opened p (s.filter.volume.epoch + 1 + k) (begun s)) (resumed p) (in_reverse p s.filter.volume.points opens) by)
 
-restart_exhausted : (p : Point) (k : ℕ) (s : State) → s.power ≡ Off → Opens s.filter.volume.points p → k ≤ s.failed_opens → most < s.filter.volume.epoch + 1 + k
+pub restart_exhausted : (p : Point) (k : ℕ) (s : State) → s.power ≡ Off → Opens s.filter.volume.points p → k ≤ s.failed_opens → most < s.filter.volume.epoch + 1 + k
     → Ends (tree_of (event.Device device.Restart) s) (shown.Refused code.Exhausted) (begun s)
 restart_exhausted p k s power opens few passes =
     let high : nat_lt most (s.filter.volume.epoch + 1 + k) ≡ true = less most (s.filter.volume.epoch + 1 + k) passes in
@@ -127,7 +127,7 @@ restart_stops : (s : State) → s.power ≡ Off → Stops (tree_of (event.Device
 restart_stops s power = rw power (inl refl)
 
 -- the volume that is opened is that of the definitions
-opened_is : (p : Point) (k clusters : ℕ) (v : Volume) → p.count ≤ length v.log → clusters ≡ v.clusters → opened (v.epoch + k + 1) (take p.count v.log) p.book clusters ≡ opened_at p (v.epoch + 1 + k) v
+pub opened_is : (p : Point) (k clusters : ℕ) (v : Volume) → p.count ≤ length v.log → clusters ≡ v.clusters → opened (v.epoch + k + 1) (take p.count v.log) p.book clusters ≡ opened_at p (v.epoch + 1 + k) v
 opened_is p k clusters v early same =
     let epoch : v.epoch + k + 1 ≡ v.epoch + 1 + k = omega arith in
     let count : length (take p.count v.log) ≡ p.count = length-take p.count v.log ∙ (let m : min p.count (length v.log) ≡ p.count = omega (arith, early) in m) in
@@ -139,7 +139,7 @@ opens_left : (last : Option (List ℕ)) (image : List ℕ) (t : State) → last 
 opens_left last image t is left = subst (λ (o : Option (List ℕ)). OpensLast StandsFor o t) (sym is) left
 
 -- the latest of points
-same_newest : (p q : Point) (ps qs : List Point) → p ∷ ps ≡ q ∷ qs → p.count ≡ q.count
+pub same_newest : (p q : Point) (ps qs : List Point) → p ∷ ps ≡ q ∷ qs → p.count ≡ q.count
 same_newest p q ps qs e = let same : p ≡ q = cc in ap (λ (x : Point). x.count) same
 
 module _ {D A : Type 0} (answers : Answering A) (acts : Acts A) (actor : IsActor answers acts) (state : D → Disk) where
@@ -178,8 +178,8 @@ module _ {D A : Type 0} (answers : Answering A) (acts : Acts A) (actor : IsActor
           mode = off.mode;
           quiet = ap (λ (d : Desk). d.notes) here.desk;
           disk = record {
-            fit = (disk_again past (state x.disk) (state y.disk) v runs.size (same_quota (state x.disk) (state y.disk) runs.settings) runs.powers off.disk).fit;
-            clusters = (disk_again past (state x.disk) (state y.disk) v runs.size (same_quota (state x.disk) (state y.disk) runs.settings) runs.powers off.disk).clusters;
+            fit = (disk_again state past (state x.disk) (state y.disk) v runs.size (same_quota (state x.disk) (state y.disk) runs.settings) runs.powers off.disk).fit;
+            clusters = (disk_again state past (state x.disk) (state y.disk) v runs.size (same_quota (state x.disk) (state y.disk) runs.settings) runs.powers off.disk).clusters;
             powers = runs.powers ∙ off.disk.powers;
           };
           is = subst (λ (b : Bool). OnBy acts state b (record { filter = y; actor = q }) t) (sym (ap (λ (d : Desk). d.broken) here.desk)) on;
@@ -204,8 +204,8 @@ module _ {D A : Type 0} (answers : Answering A) (acts : Acts A) (actor : IsActor
           holds = held_on answers acts actor state x y s t kept refl refl off.holds;
           policy = policy ∙ off.policy;
           disk = record {
-            fit = (disk_again past (state x.disk) (state y.disk) s.filter.volume runs.size (same_quota (state x.disk) (state y.disk) runs.settings) runs.powers off.disk).fit;
-            clusters = (disk_again past (state x.disk) (state y.disk) s.filter.volume runs.size (same_quota (state x.disk) (state y.disk) runs.settings) runs.powers off.disk).clusters;
+            fit = (disk_again state past (state x.disk) (state y.disk) s.filter.volume runs.size (same_quota (state x.disk) (state y.disk) runs.settings) runs.powers off.disk).fit;
+            clusters = (disk_again state past (state x.disk) (state y.disk) s.filter.volume runs.size (same_quota (state x.disk) (state y.disk) runs.settings) runs.powers off.disk).clusters;
             powers = runs.powers ∙ off.disk.powers;
           };
           point = off.point;

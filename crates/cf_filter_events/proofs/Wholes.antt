@@ -119,7 +119,7 @@ module _ {D A : Type 0} (acts : Acts A) (state : D → Disk) where
       record {
         mode = refl;
         quiet = ap (λ (k : Desk). k.notes) stands.desk;
-        disk = record { fit = subst IsFitSize (sym runs.size) fit; clusters = sym (same_clusters (state d) (state x.disk) runs.size (same_quota (state d) (state x.disk) runs.settings)); powers = runs.powers ∙ sym told };
+        disk = record { fit = λ leaves. subst IsFitSize (sym runs.size) fit; clusters = sym (same_clusters (state d) (state x.disk) runs.size (same_quota (state d) (state x.disk) runs.settings)); powers = runs.powers ∙ sym told };
         is = subst (λ (b : Bool). OnBy acts state b (record { filter = x; actor = p }) s) (sym (ap (λ (k : Desk). k.broken) stands.desk)) on;
       }
 

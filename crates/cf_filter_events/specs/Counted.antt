@@ -1,7 +1,7 @@
 -- How the disk's count of failed calls, and what is armed, go with the answers of events.
-use Rattle.std.specs.Prelude.{◌≡◌, ◌≤◌, ◌+◌, ℕ, Bool, true, false, Result, Ok, Err}
-use Rattle.cf_filter_events.specs.Actors.{Acts}
-use Rattle.cf_filter_events.specs.Faulted.{LinesTo}
+use Rattle.std.specs.Prelude.{◌≡◌, ◌≤◌, ◌+◌, ℕ, Bool, true, false, IfOk, Result, Ok, Err}
+use Rattle.cf_filter_events.specs.Actors.{Acts, LeavesTo}
+use Rattle.cf_filter_events.specs.Faulted.{FaultsTo, LinesTo}
 use Rattle.cf_filter_events.specs.Meaning.{IsBegun, IsOn}
 use Rattle.cf_filter_events.specs.Pasts.{Past}
 use Rattle.cf_filter_events.specs.Stepped.{SteppedTo}
@@ -17,7 +17,7 @@ use Rattle.cf_base.specs.declared.memory.OutOfMemory.{OutOfMemory as NoMemory}
 use Rattle.cf_disk.specs.Disk.{State as Disk, may_fail}
 use Rattle.cf_filter_machine.specs.Sensing.{Rose}
 use Rattle.cf_model.specs.Arrows.{is_device}
-use Rattle.cf_model.specs.State.{State}
+use Rattle.cf_model.specs.State.{Off, State}
 
 -- a result that tells of a device call that failed
 abbrev pub meets_device : Shown → Bool
@@ -69,6 +69,13 @@ pub record StepsOn {D A : Type 0} (acts : Acts A) (state : D → Disk) (e : Even
   pub steps : (past : Past) (s : State) → IsBegun acts state past old s → SteppedTo acts.mode (IsOn acts state past) e s r new
   pub counts : (past : Past) (s : State) → IsBegun acts state past old s → CountsIf new.filter.desk.broken r (state old.filter.disk) (state new.filter.disk)
   pub faults : (past : Past) (s : State) → IsBegun acts state past old s → LinesTo r (acts.remote old.actor) (acts.remote new.actor)
+
+-- An event while the volume is off is a step of the definitions, with this answer, that leaves the filter. It is not answered as Device. As
+-- many asks of the remote fail as the answer reports.
+pub record StepsOff {A : Type 0} (acts : Acts A) (e : Event) (old : A) (r : Result Answer NoMemory) (new : A) : Type 0 where
+  pub leads : (s : State) → s.mode ≡ acts.mode → s.power ≡ Off → acts.holds old s → LeavesTo acts.mode acts.holds e s r new
+  pub well : IfOk r (λ a. meets_device a.shown ≡ false)
+  pub faults : (s : State) → acts.holds old s → FaultsTo r (acts.remote old) (acts.remote new)
 
 -- what is answered, by whether the filter is broken and whether the answer tells of a device call that failed
 abbrev pub known_as : Bool → Bool → Answer → Result Answer NoMemory

@@ -17,9 +17,13 @@ use Rattle.cf_model.specs.Events.{begun}
 use Rattle.cf_model.specs.State.{Broken, Off, On, Point, State, Volume}
 use Rattle.cf_volume_points.specs.Standing.{Standing, clusters_for}
 
--- the disk has a fit size, lets a volume use as many clusters as this one may, and tells these power cuts
-pub record IsDiskOf (past : Past) (d : Disk) (v : Volume) : Type 0 where
-  pub fit : IsFitSize (size_of d)
+-- Each of these may leave in a crash what it reads as. So it is of disks, and not of a ground that no crash leaves.
+abbrev pub LeavesWhatReads : {D : Type 0} → (D → Disk) → Type 0
+LeavesWhatReads {D} state = (x : D) → (state x).may_leave (state x).seen
+
+-- It lets a volume use as many clusters as this one may, and tells these power cuts. A disk has a fit size.
+pub record IsDiskOf {D : Type 0} (state : D → Disk) (past : Past) (d : Disk) (v : Volume) : Type 0 where
+  pub fit : LeavesWhatReads state → IsFitSize (size_of d)
   pub clusters : v.clusters ≡ clusters_for d
   pub powers : d.powers ≡ past.told
 
@@ -32,7 +36,7 @@ OnBy acts state true x s = (s.power ≡ Broken) × acts.holds x.actor s × (x.fi
 pub record IsOn {D A : Type 0} (acts : Acts A) (state : D → Disk) (past : Past) (x : Run D A) (s : State) : Type 0 where
   pub mode : s.mode ≡ acts.mode
   pub quiet : x.filter.desk.notes ≡ []
-  pub disk : IsDiskOf past (state x.filter.disk) s.filter.volume
+  pub disk : IsDiskOf state past (state x.filter.disk) s.filter.volume
   pub is : OnBy acts state x.filter.desk.broken x s
 
 -- The volume is open, no event met Device, and the actor has begun an event.
@@ -42,7 +46,7 @@ pub record IsBegun {D A : Type 0} (acts : Acts A) (state : D → Disk) (past : P
   pub sees : acts.sees x.actor (begun s)
   pub whole : x.filter.desk.broken ≡ false
   pub quiet : x.filter.desk.notes ≡ []
-  pub disk : IsDiskOf past (state x.filter.disk) s.filter.volume
+  pub disk : IsDiskOf state past (state x.filter.disk) s.filter.volume
   pub stands : Stands state x.filter (hushed s.filter)
 
 -- The image stands for the point, in the epoch of the volume or in one that a failed opening took.
@@ -62,7 +66,7 @@ pub record IsOff {D A : Type 0} (acts : Acts A) (state : D → Disk) (past : Pas
   pub power : s.power ≡ Off
   pub holds : acts.holds x.actor s
   pub policy : x.policy ≡ s.filter.policy
-  pub disk : IsDiskOf past (state x.disk) s.filter.volume
+  pub disk : IsDiskOf state past (state x.disk) s.filter.volume
   pub point : Point
   pub opens : Opens s.filter.volume.points point
   pub newest : x.whole ≡ true → IsNewest point s.filter.volume.points

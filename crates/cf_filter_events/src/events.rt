@@ -2,7 +2,7 @@
 
 ghost use Rattle.std.specs.Prelude.{◌≡◌, false, true};
 ghost use Rattle.cf_filter_events.specs.Actors.{is_device_event};
-ghost use Rattle.cf_filter_events.specs.Counted.{Counts, CountsTo, StepsOn};
+ghost use Rattle.cf_filter_events.specs.Counted.{Counts, CountsTo, StepsOff, StepsOn};
 ghost use Rattle.cf_filter_events.specs.Faulted.{Faults};
 ghost use Rattle.cf_filter_events.specs.Meaning.{IsOff, IsOn};
 ghost use Rattle.cf_filter_events.specs.Stepped.{Steps};
@@ -27,6 +27,20 @@ fn needs_volume(event: &Event) -> bool
             EngineEvent::Link { .. } | EngineEvent::Arrive { .. }
         ),
     }
+}
+
+/// Does an event of the mode that is none of the device while the volume is off, and answers it. What needs the volume is refused as
+/// Off, and the rest the actor does. Where memory runs out the event is not answered, and nothing more is said of the actor.
+pub fn act_off<A: Actor>(alloc: Global, actor: &mut A, event: &Event) -> Result<Answer, OutOfMemory>
+    requires of { is_of A.acts.mode event.now ≡ true }
+    requires other { is_device_event event.now ≡ false }
+    ensures { StepsOff A.acts event.now actor.old result actor.new }
+{
+    if needs_volume(event) {
+        return Ok(refused(alloc, Code::Off));
+    }
+    let told = actor.beside(alloc, event);
+    known(told, false)
 }
 
 impl<G: Ground, A: Actor> RunningOn<G, A> {
@@ -74,10 +88,6 @@ impl<D: Disk, A: Actor> Cut<D, A> {
         ensures faults { Faults (IsOff A.acts D.state) self.old result (A.acts.remote self.old.actor) (A.acts.remote self.new.actor) }
         ensures whole { self.new.whole ≡ self.old.whole }
     {
-        if needs_volume(event) {
-            return Ok(refused(alloc, Code::Off));
-        }
-        let told = self.actor.beside(alloc, event);
-        known(told, false)
+        act_off(alloc, &mut self.actor, event)
     }
 }

@@ -25,5 +25,8 @@ mod worlds;
 
 pub use actors::Actor;
 pub use answers::{answered, plainly, refused};
+pub use events::act_off;
 pub use places::{Acting, Cut, Running, RunningOn};
+pub use power_cuts::resumed;
 pub use results::{count, done, item, number, outcome};
+pub use worlds::first_policy;

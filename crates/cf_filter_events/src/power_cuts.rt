@@ -1,5 +1,5 @@
 //! Events while the volume is off.
-#![tactic(auto, using(crate::proofs::Offs::unfit_step))]
+#![tactic(auto)]
 
 ghost use Rattle.std.specs.Prelude.{◌≡◌, Err, IfOk, Ok, [], false, length, true};
 ghost use Rattle.cf_filter_events.specs.Actors.{Reopens};
@@ -24,8 +24,9 @@ use crate::books::opened_book;
 use crate::places::{Acting, Cut, RunningOn};
 use cf_base::{Answer, CallError, Choice, Code, OutOfMemory, Shown};
 use cf_disk::Disk;
-use cf_filter::Filter;
+use cf_filter::{Filter, FilterOn};
 use cf_journal::{LARGEST_SIZE, LEAST_SIZE};
+use cf_volume_ground::Ground;
 use std::alloc::Global;
 
 impl<D: Disk, A: Actor> Cut<D, A> {
@@ -130,11 +131,11 @@ fn reopened<D: Disk, A: Actor>(
     (Acting::On(RunningOn { filter, actor }), told)
 }
 
-// How many changes were kept, and the book.
-fn resumed<D: Disk>(alloc: Global, filter: &Filter<D>) -> Result<Answer, OutOfMemory>
+/// The answer of a restart that opened this volume: how many changes were kept, and the book. OutOfMemory where there is none.
+pub fn resumed<G: Ground>(alloc: Global, filter: &FilterOn<G>) -> Result<Answer, OutOfMemory>
     ensures plain { IfOk result (λ a. meets_device a.shown ≡ false) }
     ensures quiet { IfOk result (λ a. faults_shown a ≡ 0) }
-    ensures told { IfOk result (λ a. (f : model) → Stands D.state filter.now f → a ≡ answer_with (shown.Resumed (length f.volume.log) (opened_of f.volume.book)) []) }
+    ensures told { IfOk result (λ a. (f : model) → Stands G.state filter.now f → a ≡ answer_with (shown.Resumed (length f.volume.log) (opened_of f.volume.book)) []) }
 {
     let volume = filter.volume();
     let opened = opened_book(alloc, volume)?;

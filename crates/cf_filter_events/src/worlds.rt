@@ -28,7 +28,8 @@ use cf_disk::Disk;
 use cf_filter::Filter;
 use std::alloc::Global;
 
-fn first_policy() -> Policy
+/// The policy of a volume that was just made.
+pub fn first_policy() -> Policy
     ensures { result ≡ first_policy }
 {
     Policy {
