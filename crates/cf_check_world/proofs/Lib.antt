@@ -1,2 +1,4 @@
-pub mod Moving
+pub mod OffSteps
+pub mod OnSteps
 pub mod Powers
+pub mod Standing

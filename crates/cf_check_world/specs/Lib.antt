@@ -1,2 +1,3 @@
+pub mod Aimed
 pub mod Devices
 pub mod Remotes

@@ -3,7 +3,7 @@
 ghost use Rattle.std.specs.Prelude.{◌≤◌, ◌<◌, ◌^◌, IfOk, length};
 ghost use Rattle.cf_check_model.specs.Judging.{IsVerdict};
 
-use crate::mem_devices::MemDevice;
+use crate::plain_devices::PlainDevice;
 use cf_base::{Event, OutOfMemory};
 use cf_check_report::{Judgement, judge};
 use std::alloc::Global;
@@ -21,5 +21,5 @@ pub fn check(
     requires report { length report.now < 2 ^ 31 }
     ensures { IfOk result (λ j. IsVerdict events.now report.now clusters j.verdict) }
 {
-    judge::<MemDevice>(alloc, clusters, events, report)
+    judge::<PlainDevice>(alloc, clusters, events, report)
 }

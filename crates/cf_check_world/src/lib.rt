@@ -1,12 +1,15 @@
-//! The filter and the engine of `replay` beside a remote that fails where a report says that it did, on a disk that wants a commit for room where
-//! the report resumes next: what a report is judged beside.
+//! The filter and the engine of `replay` beside a remote that fails where a report says that it did, on a volume that stands on no disk and
+//! makes its commits for room where the report resumes next: what a report is judged beside.
 #![tactic(auto)]
 
 mod checks;
-mod mem_devices;
+mod off_events;
+mod on_events;
+mod places;
+mod plain_devices;
 mod told_remotes;
 
 pub use cf_check_report::{Difference, Judgement};
 pub use checks::check;
-pub use mem_devices::MemDevice;
+pub use plain_devices::PlainDevice;
 pub use told_remotes::ToldRemote;
