@@ -4,7 +4,8 @@ ghost use Rattle.std.specs.Prelude.{◌≡◌, ◌≢◌, ◌⊎◌, ℕ, List, 
 ghost use Rattle.cf_disk.specs.Disk.{HasFailed};
 ghost use Rattle.cf_io.specs.Moves.{IsQuiet, IsWhole, Rose};
 ghost use Rattle.cf_pair_run.specs.Runs.{AreFit, OfText};
-ghost use Rattle.cf_world.specs.Runs.{IsBeforeDevice, IsBeforeEvents, IsBeforeWriting};
+ghost use Rattle.cf_world.specs.Runs.{IsBeforeEvents};
+ghost use Rattle.cf_world_devices.specs.Ends.{IsBeforeDevice, IsBeforeWriting};
 
 use crate::scripts::scripted;
 use cf_base::Status;

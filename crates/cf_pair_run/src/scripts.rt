@@ -6,7 +6,9 @@ ghost use Rattle.cf_io.specs.Moves.{IsQuiet, Rose};
 ghost use Rattle.cf_pair_events.specs.declared.events.PairEvent.{PairEvent as Event};
 ghost use Rattle.cf_pair_run.specs.Runs.{AreFit, WritesOf};
 ghost use Rattle.cf_pair_script.specs.PairScript.{IsScript};
-ghost use Rattle.cf_world.specs.Runs.{IsAfterReading, IsBeforeDevice, IsBeforeEvents, IsBeforeWriting, IsComplete, IsStarted, IsFit, IsUnfit, most_script};
+ghost use Rattle.cf_world.specs.Runs.{IsAfterReading, IsBeforeEvents, IsComplete, IsStarted, IsUnfit, most_script};
+ghost use Rattle.cf_world_devices.specs.Ends.{IsBeforeDevice, IsBeforeWriting};
+ghost use Rattle.cf_world_devices.specs.Sizes.{IsFit};
 
 use crate::refusals::refuse;
 use crate::reports::report;
@@ -17,7 +19,7 @@ use cf_io::Sink;
 use cf_pair_events::PairEvent;
 use cf_pair_script::read;
 use cf_remote::Remote;
-use cf_world::is_fit;
+use cf_world_devices::is_fit;
 use std::alloc::Global;
 
 /// Reads the script, does its events, and writes the report.

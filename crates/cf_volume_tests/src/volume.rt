@@ -5,6 +5,7 @@ mod cuts;
 mod edits;
 mod first_format;
 mod limits;
+mod migrations;
 mod openings;
 mod quotas;
 mod scripts;

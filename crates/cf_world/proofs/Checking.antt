@@ -12,8 +12,8 @@ use Rattle.cf_io.specs.Moves.{IsLonger, IsQuiet, IsWhole, Rose}
 use Rattle.cf_io.specs.declared.faults.ReadError.{ReadError}
 use Rattle.cf_io.specs.declared.faults.ReadError.TheVariants as reading
 use Rattle.cf_script.specs.Script.{AreEvents, IsScript, event_lines}
-use Rattle.cf_world.proofs.Adding.{adds_nothing}
-use Rattle.cf_world.proofs.OfTexts.{long_text, not_quiet, some_text, whole_text}
+use Rattle.cf_world_devices.proofs.Adding.{adds_nothing}
+use Rattle.cf_world_devices.proofs.Sources.{long_text, not_quiet, some_text, whole_text}
 use Rattle.cf_world.proofs.Parted.{not_both, one_script}
 use Rattle.cf_world.specs.Checks.{CheckWrites, HasLine, HasNoMark, IsJudged, IsParted, IsRecording, OfCheck, clusters, most_checked, unmarked_line, verdict_line, verdict_status}
 use Rattle.cf_world.specs.Judged.{PutsLine, PutsVerdict}

@@ -19,7 +19,7 @@ use Rattle.cf_model.specs.State.{State}
 use Rattle.cf_script.specs.Script.{IsScript}
 use Rattle.cf_state.specs.Texts.{state_text, used_blocks}
 use Rattle.cf_volume.specs.Calls.{IsCause, StopsOnly}
-use Rattle.cf_world.proofs.Adding.{adds_nothing}
+use Rattle.cf_world_devices.proofs.Adding.{adds_nothing}
 use Rattle.cf_world.proofs.Ends.{long_said, refusal_written}
 use Rattle.cf_remote.specs.Told.{Told}
 use Rattle.cf_volume_points.specs.Standing.{clusters_for}

@@ -6,7 +6,7 @@ use Rattle.cf_base.specs.declared.policies.Choice.TheVariants.{Keep}
 use Rattle.cf_base.specs.declared.statuses.Status.{Status}
 use Rattle.cf_base.specs.declared.statuses.Status.TheVariants as status
 use Rattle.cf_disk.specs.Disk.{AddsPower, Keeps, Only, Powers, State as Disk}
-use Rattle.cf_world.specs.Migrations.{HandsOut}
+use Rattle.cf_world_devices.specs.Migrations.{HandsOut}
 use Rattle.cf_world.specs.Outputs.{HandsImage, IsCut}
 
 module _ {D : Type 0} (state : D → Disk) (old cut new : D) (left : (state old).may_leave (state cut).seen) (durable : Only (state cut).seen (state cut)) (powers : Powers Keep (state old) (state cut)) (keeps : Keeps (state cut) (state new)) (same : (state new).powers ≡ (state cut).powers) where

@@ -1,4 +1,3 @@
-pub mod Adding
 pub mod Errs
 pub mod Drafted
 pub mod RemoteCounts
@@ -12,7 +11,5 @@ pub mod ModeEvents
 pub mod WorldRuns
 pub mod OverPowers
 pub mod OfTexts
-mod Migrated
-mod Scrubbed
 mod Imaged
 mod Parted

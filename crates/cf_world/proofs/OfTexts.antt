@@ -1,8 +1,6 @@
 -- The text of a run: the one that was read, or one that the source may have had left.
 use Rattle.std.proofs.Common.{◌≡◌, ◌<◌, ◌≤◌, ◌+◌, ℕ, List, [], length, refl, arith}
 use Rattle.std.specs.Prelude.{Option, Some, None}
-use Rattle.std.proofs.Math.ListN.{replicate}
-use Rattle.std.proofs.lemmas.List.{length-replicate}
 use Rattle.cf_base.specs.declared.events.Event.{Event}
 use Rattle.cf_base.specs.declared.policies.Mode.{Mode}
 use Rattle.cf_base.specs.declared.statuses.Status.{Status}
@@ -15,26 +13,12 @@ use Rattle.cf_remote.specs.Told.{Told}
 use Rattle.cf_script.specs.Script.{IsScript}
 use Rattle.cf_world.proofs.Concluded.{unread_as}
 use Rattle.cf_world.specs.Outputs.{OfText, WritesAs}
-use Rattle.cf_world.specs.Runs.{IsAfterReading, IsComplete, IsFit, IsLength, IsUnfit, most_script}
+use Rattle.cf_world.specs.Runs.{IsAfterReading, IsComplete, IsLength, IsUnfit, most_script}
+use Rattle.cf_world_devices.proofs.Sources.{long_text, not_quiet, some_text, whole_text}
+use Rattle.cf_world_devices.specs.Sizes.{IsFit}
 use Rattle.cf_world.specs.declared.outputs.Output.{Output}
 use Rattle.cf_world.specs.declared.outputs.Output.TheVariants as output
 use Rattle.cf_world.specs.Steps.{read_status}
-
--- what the source has left, or a text of some length where it reports nothing
-abbrev pub some_text : ℕ → Option (List ℕ) → List ℕ
-some_text n None = replicate n 0
-some_text n (Some left) = left
-
-pub whole_text : (n : ℕ) (left : Option (List ℕ)) → IsWhole left (some_text n left)
-whole_text n None = tt
-whole_text n (Some left) = refl
-
-pub long_text : (n : ℕ) (left : Option (List ℕ)) → IsLonger left n → n < length (some_text (n + 1) left)
-long_text n None h = rw (length-replicate {A = ℕ} (n + 1) 0) (omega arith)
-long_text n (Some left) h = h
-
-pub not_quiet : (old new : ℕ) → Rose old new → IsQuiet old new → ⊥
-not_quiet old new rose quiet = omega (arith, rose quiet.1, quiet.0)
 
 pub short_enough : (s : Status) (text : List ℕ) → length text ≤ most_script → IsAfterReading s → IsLength s text
 short_enough status.Done text short h = short

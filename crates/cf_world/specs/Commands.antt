@@ -9,9 +9,9 @@ use Rattle.cf_gen.specs.Scripts.{made_script}
 use Rattle.cf_io.specs.Moves.{IsFront, IsWhole}
 use Rattle.cf_remote.specs.Told.{Told}
 use Rattle.cf_world.specs.Checks.{OfCheck}
-use Rattle.cf_world.specs.Migrations.{OfDevice}
+use Rattle.cf_world_devices.specs.Migrations.{OfDevice}
 use Rattle.cf_world.specs.Outputs.{OfText}
-use Rattle.cf_world.specs.Scrubs.{OfScrub, most_judged}
+use Rattle.cf_world_devices.specs.Scrubs.{OfScrub, most_judged}
 use Rattle.cf_world.specs.declared.outputs.Ending.TheVariants as ending
 use Rattle.cf_world.specs.declared.outputs.Output.TheVariants as output
 

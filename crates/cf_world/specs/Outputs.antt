@@ -21,7 +21,8 @@ use Rattle.cf_script.specs.Script.{IsScript}
 use Rattle.cf_state.specs.Texts.{state_text, used_blocks}
 use Rattle.cf_volume_points.specs.Standing.{clusters_for}
 use Rattle.cf_world.specs.Led.{Begins, Leads, LeadsActor, LeadsDisk, LeavesActor, Stood}
-use Rattle.cf_world.specs.Runs.{IsComplete, IsFit, IsGood, IsLength, IsUnfit, Refuses, RefusesFront, ReportsLong, WritesOf, answers_of, events_of, most_report, most_script}
+use Rattle.cf_world.specs.Runs.{IsComplete, IsGood, IsLength, IsUnfit, Refuses, RefusesFront, ReportsLong, WritesOf, answers_of, events_of, most_report, most_script}
+use Rattle.cf_world_devices.specs.Sizes.{IsFit}
 use Rattle.cf_world.specs.Steps.{WritesBy}
 use Rattle.cf_world.specs.declared.outputs.Ending.{Ending}
 use Rattle.cf_world.specs.declared.outputs.Ending.TheVariants as ending

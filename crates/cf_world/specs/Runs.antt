@@ -1,5 +1,5 @@
 -- What a run writes, and how it ends.
-use Rattle.std.specs.Prelude.{◌≡◌, ◌≢◌, ◌⊎◌, ℕ, ◌+◌, ◌<◌, ◌≤◌, ◌%◌, List, [], ◌∷◌, ◌++◌, length, map, codes, Option, IsTrue}
+use Rattle.std.specs.Prelude.{◌≡◌, ◌≢◌, ◌⊎◌, ℕ, ◌+◌, ◌<◌, ◌≤◌, List, [], ◌∷◌, ◌++◌, length, map, codes, Option, IsTrue}
 use Rattle.std.specs.Fmt.{decimal}
 use Rattle.cf_base.specs.declared.answers.Answer.{Answer}
 use Rattle.cf_base.specs.declared.events.Event.{Event}
@@ -8,7 +8,6 @@ use Rattle.cf_base.specs.declared.statuses.Status.{Status}
 use Rattle.cf_base.specs.declared.statuses.Status.TheVariants as status
 use Rattle.cf_disk.specs.Disk.{State as Disk, size_of}
 use Rattle.cf_io.specs.Moves.{Adds, AddsFront}
-use Rattle.cf_journal.specs.Settled.{IsFitSize}
 use Rattle.cf_volume_points.specs.Standing.{clusters_for}
 use Rattle.cf_remote.specs.Told.{Told}
 use Rattle.cf_report.specs.Texts.{text as text_of, texts}
@@ -17,10 +16,7 @@ use Rattle.cf_script.specs.Script.{lines_of, IsScript}
 use Rattle.cf_script.specs.declared.script_errors.ScriptError.{ScriptError}
 use Rattle.cf_script.specs.declared.script_errors.ScriptError.TheVariants as fails
 use Rattle.cf_world.specs.Led.{Begins, IsLawful, Leads}
-
--- a size that a device may have, in bytes
-abbrev pub IsFit : ℕ → Type 0
-IsFit n = IsFitSize n × (n % 4096 ≡ 0)
+use Rattle.cf_world_devices.specs.Ends.{IsBeforeDevice}
 
 -- the greatest length of a script, in bytes
 abbrev pub most_script : ℕ
@@ -198,22 +194,6 @@ IsPlayed s = IsOfReport s
 abbrev pub IsStarted : Status → Type 0
 IsStarted status.BadDevice = Unit {0}
 IsStarted s = IsPlayed s
-
--- those at which nothing was written
-abbrev pub IsBeforeWriting : Status → Type 0
-IsBeforeWriting status.Usage = Unit {0}
-IsBeforeWriting status.SourceFault = Unit {0}
-IsBeforeWriting status.BadDevice = Unit {0}
-IsBeforeWriting status.DeviceFault = Unit {0}
-IsBeforeWriting _ = ⊥
-
--- those at which the device was not used
-abbrev pub IsBeforeDevice : Status → Type 0
-IsBeforeDevice status.Usage = Unit {0}
-IsBeforeDevice status.SourceFault = Unit {0}
-IsBeforeDevice status.BadScript = Unit {0}
-IsBeforeDevice status.BadDevice = Unit {0}
-IsBeforeDevice _ = ⊥
 
 -- those at which no event was done
 abbrev pub IsBeforeEvents : Status → Type 0

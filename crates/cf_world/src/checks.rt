@@ -6,10 +6,9 @@ ghost use Rattle.cf_base.specs.declared.statuses.Status.TheVariants as ends;
 ghost use Rattle.cf_io.specs.Moves.{IsQuiet, IsWhole, Rose};
 ghost use Rattle.cf_world.specs.Checks.{CheckWrites, IsRecording, OfCheck, most_checked, unmarked_line, verdict_line, verdict_status};
 ghost use Rattle.cf_world.specs.Judged.{PutsLine, PutsVerdict};
-ghost use Rattle.cf_world.specs.Runs.{IsBeforeWriting};
+ghost use Rattle.cf_world_devices.specs.Ends.{IsBeforeWriting};
 
 use crate::explanations::explain;
-use crate::images::written;
 use crate::recordings::{next_number, parts};
 use crate::refusals::{early, refuse, write_fail};
 use crate::runs::unscripted;
@@ -18,6 +17,7 @@ use cf_check_model::Verdict;
 use cf_check_world::{Difference, Judgement, check};
 use cf_io::{Sink, Source, read_all};
 use cf_script::{ScriptError, read};
+use cf_world_devices::written;
 use std::alloc::{AllocError, Global};
 
 /// The most bytes of a script with its report.

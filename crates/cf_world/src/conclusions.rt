@@ -12,10 +12,11 @@ ghost use Rattle.cf_model.specs.Events.{is_of};
 ghost use Rattle.cf_script.specs.Script.{IsScript};
 ghost use Rattle.cf_world.specs.Led.{HasRunOn};
 ghost use Rattle.cf_world.specs.Outputs.{ConcludesBy, IsEnding, PutsEnd, PutsText};
-ghost use Rattle.cf_world.specs.Runs.{IsBeforeWriting, IsPlayed, answers_of, most_script};
+ghost use Rattle.cf_world.specs.Runs.{IsPlayed, answers_of, most_script};
+ghost use Rattle.cf_world_devices.specs.Ends.{IsBeforeWriting};
 ghost use Rattle.cf_world.specs.declared.outputs.Ending.TheVariants as endings;
 
-use crate::images::{put_image, written};
+use crate::images::put_image;
 use crate::outputs::Ending;
 use crate::plays::play;
 use crate::refusals::early;
@@ -26,6 +27,7 @@ use cf_disk::Disk;
 use cf_filter_events::Actor;
 use cf_gen::Counts;
 use cf_io::{NullSink, Sink};
+use cf_world_devices::written;
 use std::alloc::Global;
 
 /// Makes a volume on the disk, does the events, and writes what they leave. A start that the device stops is DeviceFault, and so is a

@@ -10,24 +10,25 @@ ghost use Rattle.cf_cli.specs.declared.commands.Command.{Command as Meant};
 ghost use Rattle.cf_cli.specs.declared.commands.Command.TheVariants as meant;
 ghost use Rattle.cf_world.specs.Checks.{OfCheck};
 ghost use Rattle.cf_world.specs.Commands.{OfCommand};
-ghost use Rattle.cf_world.specs.Migrations.{OfDevice};
+ghost use Rattle.cf_world_devices.specs.Migrations.{OfDevice};
 ghost use Rattle.cf_world.specs.Outputs.{OfText};
-ghost use Rattle.cf_world.specs.Runs.{IsBeforeDevice, IsBeforeEvents, IsBeforeWriting, IsFit};
+ghost use Rattle.cf_world.specs.Runs.{IsBeforeEvents};
+ghost use Rattle.cf_world_devices.specs.Ends.{IsBeforeDevice, IsBeforeWriting};
+ghost use Rattle.cf_world_devices.specs.Sizes.{IsFit};
 ghost use Rattle.cf_world.specs.Steps.{read_status, words_status};
 ghost use Rattle.cf_world.specs.declared.outputs.Ending.TheVariants as endings;
 ghost use Rattle.cf_world.specs.declared.outputs.Output.TheVariants as outputs;
 
 use crate::checks::{Checked, check_report};
-use crate::migrations::migrate;
 use crate::outputs::{Ending, Output};
 use crate::scripts::scripted;
-use crate::scrubs::judge;
 use cf_base::{Mode, Status};
 use cf_cli::{Command, WordsError, command_of};
 use cf_disk::Disk;
 use cf_gen::{gen_script, made_script_is_short, made_script_spells};
 use cf_io::{ReadError, Sink, Source, read_all};
 use cf_remote::Remote;
+use cf_world_devices::{judge, migrate};
 use std::alloc::Global;
 
 /// The most bytes that a script has.

@@ -1,6 +1,6 @@
 //! A script that is read and done, by the command that it is for.
 
-ghost use Rattle.std.specs.Prelude.{◌≡◌, ◌≢◌, ◌≤◌, ◌+◌, ◌↔◌, IsTrue, List, None, length, ℕ};
+ghost use Rattle.std.specs.Prelude.{◌≡◌, ◌≢◌, ◌≤◌, ◌+◌, IsTrue, List, None, length, ℕ};
 ghost use Rattle.std.specs.List.{list_all};
 ghost use Rattle.cf_base.specs.declared.events.Event.{Event};
 ghost use Rattle.cf_base.specs.declared.policies.Mode.TheVariants as modes;
@@ -10,7 +10,9 @@ ghost use Rattle.cf_journal.specs.Settled.{IsFitSize};
 ghost use Rattle.cf_model.specs.Events.{is_of};
 ghost use Rattle.cf_script.specs.Script.{IsScript};
 ghost use Rattle.cf_world.specs.Outputs.{WritesAs, WritesAsBy};
-ghost use Rattle.cf_world.specs.Runs.{IsAfterReading, IsBeforeDevice, IsBeforeEvents, IsBeforeWriting, IsComplete, IsFit, IsPlayed, IsStarted, IsUnfit, WritesOf, most_script};
+ghost use Rattle.cf_world.specs.Runs.{IsAfterReading, IsBeforeEvents, IsComplete, IsPlayed, IsStarted, IsUnfit, WritesOf, most_script};
+ghost use Rattle.cf_world_devices.specs.Ends.{IsBeforeDevice, IsBeforeWriting};
+ghost use Rattle.cf_world_devices.specs.Sizes.{IsFit};
 ghost use Rattle.cf_world.specs.declared.outputs.Ending.TheVariants as endings;
 ghost use Rattle.cf_world.specs.declared.outputs.Output.TheVariants as outputs;
 
@@ -19,15 +21,14 @@ use crate::outputs::Output;
 use crate::refusals::refuse;
 use crate::reports::{Played, report};
 use crate::runs::Finish;
-use cf_base::limits::BLOCK_BYTES;
 use cf_base::{Event, Mode, Status};
 use cf_disk::Disk;
 use cf_engine::SyncActor;
 use cf_filter_events::Actor;
 use cf_io::Sink;
-use cf_journal::{LARGEST_SIZE, LEAST_SIZE};
 use cf_remote::Remote;
 use cf_script::read;
+use cf_world_devices::is_fit;
 use cf_world_filter::ScriptActor;
 use std::alloc::Global;
 
@@ -66,13 +67,6 @@ pub(crate) fn scripted<K: Sink, D: Disk + Drop, R: Remote + Drop>(
             explanation: None,
         },
     }
-}
-
-/// Whether a device may have this size, in bytes.
-pub fn is_fit(size: u64) -> bool
-    ensures { IsTrue result ↔ IsFit size }
-{
-    LEAST_SIZE <= size && size <= LARGEST_SIZE && size % BLOCK_BYTES == 0
 }
 
 // Begins with the events, where the device is fit.

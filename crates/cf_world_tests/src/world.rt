@@ -2,7 +2,6 @@
 
 mod faults;
 mod lengths;
-mod migrations;
 mod remotes;
 mod sinks;
 mod stops;

@@ -1,6 +1,6 @@
 use Rattle.std.proofs.Common.{◌≡◌, Err, ap, refl}
 use Rattle.cf_pair_run.proofs.Endings.{read_text, unread_text}
-use Rattle.cf_world.proofs.Adding.{adds_nothing}
+use Rattle.cf_world_devices.proofs.Adding.{adds_nothing}
 use Rattle.cf_pair_run.proofs.runs.sourced.Goals as goal
 
 pub returns-in-Ok-clause-text : goal.returns-in-Ok-clause-text

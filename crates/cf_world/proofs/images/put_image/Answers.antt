@@ -1,4 +1,4 @@
-use Rattle.cf_world.proofs.Adding.{adds_nothing}
+use Rattle.cf_world_devices.proofs.Adding.{adds_nothing}
 use Rattle.cf_world.proofs.Imaged.{handed_image}
 use Rattle.cf_world.proofs.images.put_image.Goals as goal
 

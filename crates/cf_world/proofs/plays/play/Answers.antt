@@ -8,7 +8,7 @@ use Rattle.cf_base.specs.declared.events.Event.{Event}
 use Rattle.cf_model.specs.Events.{is_of}
 use Rattle.cf_volume_points.specs.Standing.{clusters_for}
 use Rattle.cf_report.specs.Texts.{text, texts}
-use Rattle.cf_world.proofs.Adding.{adds_nothing}
+use Rattle.cf_world_devices.proofs.Adding.{adds_nothing}
 use Rattle.cf_world.proofs.Drafted.{drafted_all}
 use Rattle.cf_world.proofs.Errs.{err_if}
 use Rattle.cf_world.proofs.WorldRuns.{run_lawful}

@@ -1,5 +1,5 @@
 use Rattle.std.proofs.Common.{◌≡◌, ap, Err, refl}
-use Rattle.cf_world.proofs.Adding.{adds_nothing}
+use Rattle.cf_world_devices.proofs.Adding.{adds_nothing}
 use Rattle.cf_world.proofs.OfTexts.{read_text, unread_text}
 use Rattle.cf_world.proofs.runs.sourced.Goals as goal
 

@@ -1,5 +1,5 @@
 use Rattle.std.proofs.Common.{refl}
-use Rattle.cf_world.proofs.Adding.{adds_nothing}
+use Rattle.cf_world_devices.proofs.Adding.{adds_nothing}
 use Rattle.cf_world.proofs.Concluded.{unfit_as}
 use Rattle.cf_world.proofs.scripts.started.Goals as goal
 

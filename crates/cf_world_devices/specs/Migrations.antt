@@ -12,7 +12,7 @@ use Rattle.cf_model.specs.Formats.{Image}
 use Rattle.cf_model.specs.Numbers.{most}
 use Rattle.cf_volume_commit.specs.Loaded.{HoldsImage, HoldsSecond, IsNoVolume, raised_image}
 use Rattle.cf_volume_points.specs.Standing.{Standing}
-use Rattle.cf_world.specs.Runs.{IsFit}
+use Rattle.cf_world_devices.specs.Sizes.{IsFit}
 
 -- These bytes hold in format 2 what those of before hold in either: the same image but for its epoch, which is the next one, and
 -- the same bytes of clusters. So they stand for each log and book for which the others stand.

@@ -1,7 +1,7 @@
 use Rattle.std.proofs.Common.{ap}
 use Rattle.std.specs.Prelude.{Err}
-use Rattle.cf_world.proofs.Migrated.{migrated, unopened_cause}
-use Rattle.cf_world.proofs.migrations.open.Goals as goal
+use Rattle.cf_world_devices.proofs.Migrated.{migrated, unopened_cause}
+use Rattle.cf_world_devices.proofs.migrations.open.Goals as goal
 
 pub returns-in-Ok-clause-opened : goal.returns-in-Ok-clause-opened
 returns-in-Ok-clause-opened g c =

@@ -25,10 +25,10 @@ use Rattle.cf_volume_points.proofs.Points.{Fair}
 use Rattle.cf_volume_points.proofs.Saves.{last_stands}
 use Rattle.cf_volume_points.specs.At.{At}
 use Rattle.cf_volume_points.specs.Standing.{Standing, clusters_for, opened}
-use Rattle.cf_world.proofs.Adding.{adds_nothing}
-use Rattle.cf_world.proofs.OfTexts.{long_text, not_quiet, some_text, whole_text}
-use Rattle.cf_world.specs.Migrations.{HandsOut, IsEnd, IsMigrated, IsRefused, IsUnfitEnd, IsUnopened, IsUnopenedEnd, IsUnread, Migrates, OfDevice}
-use Rattle.cf_world.specs.Runs.{IsFit}
+use Rattle.cf_world_devices.proofs.Adding.{adds_nothing}
+use Rattle.cf_world_devices.proofs.Sources.{long_text, not_quiet, some_text, whole_text}
+use Rattle.cf_world_devices.specs.Migrations.{HandsOut, IsEnd, IsMigrated, IsRefused, IsUnfitEnd, IsUnopened, IsUnopenedEnd, IsUnread, Migrates, OfDevice}
+use Rattle.cf_world_devices.specs.Sizes.{IsFit}
 
 -- the source was not read to its end
 

@@ -1,8 +1,8 @@
 use Rattle.std.proofs.Common.{List, ℕ, ap, arith, subst}
 use Rattle.std.specs.Prelude.{Err}
-use Rattle.cf_world.proofs.Migrated.{later_fault, unopened_writes}
-use Rattle.cf_world.specs.Migrations.{IsRefused}
-use Rattle.cf_world.proofs.migrations.put.Goals as goal
+use Rattle.cf_world_devices.proofs.Migrated.{later_fault, unopened_writes}
+use Rattle.cf_world_devices.specs.Migrations.{IsRefused}
+use Rattle.cf_world_devices.proofs.migrations.put.Goals as goal
 
 pub returns-in-Ok-clause-device_fault : goal.returns-in-Ok-clause-device_fault
 returns-in-Ok-clause-device_fault g c =

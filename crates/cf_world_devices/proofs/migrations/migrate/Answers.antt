@@ -1,8 +1,8 @@
 use Rattle.std.proofs.Common.{ℕ, ◌∙◌, ap, subst, sym}
 use Rattle.std.specs.Prelude.{Err, min}
-use Rattle.cf_world.proofs.Migrated.{read_device, unread_device}
-use Rattle.cf_world.specs.Runs.{IsFit}
-use Rattle.cf_world.proofs.migrations.migrate.Goals as goal
+use Rattle.cf_world_devices.proofs.Migrated.{read_device, unread_device}
+use Rattle.cf_world_devices.specs.Sizes.{IsFit}
+use Rattle.cf_world_devices.proofs.migrations.migrate.Goals as goal
 
 pub returns-in-Ok-clause-bytes : goal.returns-in-Ok-clause-bytes
 returns-in-Ok-clause-bytes g c = (

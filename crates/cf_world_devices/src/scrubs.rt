@@ -3,10 +3,10 @@
 ghost use Rattle.std.specs.Prelude.{◌≡◌, ◌≢◌, ℕ, IfOk, List};
 ghost use Rattle.cf_io.specs.Moves.{IsFront, IsQuiet, Rose};
 ghost use Rattle.cf_scrub.specs.Judgements.{IsJudgement};
-ghost use Rattle.cf_world.specs.Runs.{IsBeforeWriting};
-ghost use Rattle.cf_world.specs.Scrubs.{JudgesText, OfScrub, PutsJudgement, judged_status, most_judged};
+ghost use Rattle.cf_world_devices.specs.Ends.{IsBeforeWriting};
+ghost use Rattle.cf_world_devices.specs.Scrubs.{JudgesText, OfScrub, PutsJudgement, judged_status, most_judged};
 
-use crate::images::written;
+use crate::device_bytes::written;
 use cf_base::Status;
 use cf_io::{ReadError, Sink, Source, read_up_to};
 use cf_scrub::{Judgement, scrub};
@@ -15,8 +15,9 @@ use std::alloc::Global;
 /// The most bytes that are judged: one more than a device has.
 const MOST_JUDGED: usize = 271_581_185;
 
-/// Reads the bytes of a device from the source, and writes what is wrong with them, or that nothing is.
-pub(crate) fn judge<S: Source, K: Sink>(alloc: Global, source: &mut S, sink: &mut K) -> Status
+/// Reads the bytes of a device from the source, and writes what is wrong with them, or that nothing is. Damaged where something is; SourceFault,
+/// SinkFault where these failed.
+pub fn judge<S: Source, K: Sink>(alloc: Global, source: &mut S, sink: &mut K) -> Status
     ensures bytes { (bytes : List ℕ) × IsFront most_judged (S.left source.old) bytes
         × OfScrub bytes (K.held sink.old) (K.held sink.new) (IsQuiet (S.faults source.old) (S.faults source.new) × IsQuiet (K.faults sink.old) (K.faults sink.new)) result }
     ensures only { result ≢ Status.Usage }

@@ -1,8 +1,9 @@
 //! Devices put into format 2, and bytes that are no device.
 
-use super::{Run, command, ends, status_of};
 use cf_base::{OutOfMemory, Status};
-use cf_io::MemSink;
+use cf_disk::MemDisk;
+use cf_io::{MemSink, MemSource};
+use cf_world_devices::migrate;
 use std::alloc::Global;
 use std::test::Fail;
 
@@ -50,14 +51,24 @@ fn device(alloc: Global, len: usize) -> Result<Vec<u8>, OutOfMemory> {
     Ok(bytes)
 }
 
-const MIGRATE: &[&str] = &["migrate"];
+/// How the migration of what the source holds ends on a device of the least size.
+fn migrated(
+    alloc: Global,
+    source: &mut MemSource,
+    sink: &mut MemSink,
+) -> Result<Status, OutOfMemory> {
+    let mut disk = MemDisk::new(alloc, LEAST as u64)?;
+    let status = migrate(alloc, source, sink, &mut disk);
+    drop(disk);
+    Ok(status)
+}
 
-/// The migration of these bytes on a device of the least size.
-fn migration<'a>(bytes: &'a [u8]) -> Run<'a> {
-    Run {
-        size: LEAST as u64,
-        ..command(MIGRATE, bytes)
-    }
+/// How the migration of these bytes ends, which writes to this sink.
+fn status_of(alloc: Global, bytes: &[u8], sink: &mut MemSink) -> Result<Status, OutOfMemory> {
+    let mut source = MemSource::new(alloc, bytes, &[])?;
+    let status = migrated(alloc, &mut source, sink);
+    drop(source);
+    status
 }
 
 /// Whether these bytes stand at a place.
@@ -68,7 +79,7 @@ fn has(bytes: &[u8], at: usize, part: &[u8]) -> bool {
 /// Whether the migration of these bytes writes a device of format 2.
 fn writes(alloc: Global, bytes: &[u8]) -> Result<bool, OutOfMemory> {
     let mut sink = MemSink::new(alloc, LEAST, &[])?;
-    let status = status_of(alloc, &migration(bytes), &mut sink);
+    let status = status_of(alloc, bytes, &mut sink);
     let written = sink.bytes();
     let is_so = written.len() == LEAST
         && has(written, 1_572_864, &SLOT)
@@ -90,12 +101,21 @@ fn a_device_of_format_1_is_written_in_format_2(rt: HostRuntime) -> Result<(), Fa
     Ok(())
 }
 
+/// How the migration of so many bytes ends.
+fn status_at(alloc: Global, len: usize, sink: &mut MemSink) -> Result<Status, OutOfMemory> {
+    let bytes = device(alloc, len)?;
+    let status = status_of(alloc, &bytes, sink);
+    drop(bytes);
+    status
+}
+
 /// Whether nothing is written of so many bytes, as they are no device.
 fn is_none(alloc: Global, len: usize) -> Result<bool, OutOfMemory> {
-    let bytes = device(alloc, len)?;
-    let ended = ends(alloc, &migration(&bytes), Status::BadImage, b"");
-    drop(bytes);
-    ended
+    let mut sink = MemSink::new(alloc, LEAST, &[])?;
+    let status = status_at(alloc, len, &mut sink);
+    let is_empty = sink.bytes().is_empty();
+    drop(sink);
+    Ok(status? == Status::BadImage && is_empty)
 }
 
 #[test]

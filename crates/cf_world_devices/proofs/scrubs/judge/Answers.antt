@@ -1,7 +1,7 @@
 use Rattle.std.proofs.Common.{◌≡◌, ap}
 use Rattle.std.specs.Prelude.{Err}
-use Rattle.cf_world.proofs.Scrubbed.{judged_bytes, no_memory, not_read}
-use Rattle.cf_world.proofs.scrubs.judge.Goals as goal
+use Rattle.cf_world_devices.proofs.Scrubbed.{judged_bytes, no_memory, not_read}
+use Rattle.cf_world_devices.proofs.scrubs.judge.Goals as goal
 
 pub returns-in-Ok-clause-bytes : goal.returns-in-Ok-clause-bytes
 returns-in-Ok-clause-bytes g c =

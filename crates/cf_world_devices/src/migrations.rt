@@ -8,11 +8,12 @@ ghost use Rattle.cf_disk.specs.Disk.{HasFailed, may_fail, size_of};
 ghost use Rattle.cf_io.specs.Moves.{IsQuiet, IsWhole, Rose};
 ghost use Rattle.cf_io.specs.declared.faults.ReadError.TheVariants as reading;
 ghost use Rattle.cf_journal.specs.Settled.{IsFitSize};
-ghost use Rattle.cf_world.specs.Migrations.{IsMigrated, IsRefused, IsUnopened, IsUnopenedEnd, IsUnread, Migrates, OfDevice};
-ghost use Rattle.cf_world.specs.Runs.{IsBeforeDevice, IsBeforeWriting, IsFit};
+ghost use Rattle.cf_world_devices.specs.Migrations.{IsMigrated, IsRefused, IsUnopened, IsUnopenedEnd, IsUnread, Migrates, OfDevice};
+ghost use Rattle.cf_world_devices.specs.Ends.{IsBeforeDevice, IsBeforeWriting};
+ghost use Rattle.cf_world_devices.specs.Sizes.{IsFit};
 
-use crate::images::hand_out;
-use crate::scripts::is_fit;
+use crate::device_bytes::hand_out;
+use crate::sizes::is_fit;
 use cf_base::{CallError, Code, Status};
 use cf_disk::{Disk, DiskError};
 use cf_io::{ReadError, Sink, Source, read_all};
@@ -21,8 +22,9 @@ use cf_volume_commit::load;
 use std::alloc::Global;
 
 /// Reads the bytes of a device from the source, writes them to the disk and makes them durable, opens the volume there, which
-/// puts it into format 2 in the next epoch, and writes the disk's bytes to the sink.
-pub(crate) fn migrate<S: Source, K: Sink, D: Disk>(
+/// puts it into format 2 in the next epoch, and writes the disk's bytes to the sink. BadDevice where the disk has no fit size, and BadImage where
+/// the bytes are not as long as the disk or hold no volume that can be opened; SourceFault, SinkFault, DeviceFault where these failed.
+pub fn migrate<S: Source, K: Sink, D: Disk>(
     alloc: Global,
     source: &mut S,
     sink: &mut K,

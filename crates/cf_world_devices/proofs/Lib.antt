@@ -1,0 +1,4 @@
+pub mod Adding
+pub mod Sources
+mod Migrated
+mod Scrubbed

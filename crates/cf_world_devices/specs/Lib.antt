@@ -1,0 +1,4 @@
+pub mod Ends
+pub mod Migrations
+pub mod Scrubs
+pub mod Sizes
