@@ -1,9 +1,4 @@
 pub mod Checks
 pub mod Judged
 pub mod Recordings
-pub mod RemoteFaults
-pub mod Led
-pub mod Runs
-pub mod Outputs
 pub mod Commands
-pub mod Steps

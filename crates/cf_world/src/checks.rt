@@ -10,14 +10,13 @@ ghost use Rattle.cf_world_devices.specs.Ends.{IsBeforeWriting};
 
 use crate::explanations::explain;
 use crate::recordings::{next_number, parts};
-use crate::refusals::{early, refuse, write_fail};
-use crate::runs::unscripted;
 use cf_base::{Event, Mode, OutOfMemory, Status};
 use cf_check_model::Verdict;
 use cf_check_world::{Difference, Judgement, check};
 use cf_io::{Sink, Source, read_all};
 use cf_script::{ScriptError, read};
 use cf_world_devices::written;
+use cf_world_scripts::{early, refuse, unscripted, write_fail};
 use std::alloc::{AllocError, Global};
 
 /// The most bytes of a script with its report.

@@ -9,41 +9,25 @@ ghost use Rattle.cf_cli.specs.Accounts.{AreTaken, Names};
 ghost use Rattle.cf_cli.specs.declared.commands.Command.{Command as Meant};
 ghost use Rattle.cf_cli.specs.declared.commands.Command.TheVariants as meant;
 ghost use Rattle.cf_world.specs.Checks.{OfCheck};
-ghost use Rattle.cf_world.specs.Commands.{OfCommand};
+ghost use Rattle.cf_world.specs.Commands.{OfCommand, words_status};
 ghost use Rattle.cf_world_devices.specs.Migrations.{OfDevice};
-ghost use Rattle.cf_world.specs.Outputs.{OfText};
-ghost use Rattle.cf_world.specs.Runs.{IsBeforeEvents};
+ghost use Rattle.cf_world_scripts.specs.Outputs.{OfText};
+ghost use Rattle.cf_world_scripts.specs.Runs.{IsBeforeEvents};
 ghost use Rattle.cf_world_devices.specs.Ends.{IsBeforeDevice, IsBeforeWriting};
 ghost use Rattle.cf_world_devices.specs.Sizes.{IsFit};
-ghost use Rattle.cf_world.specs.Steps.{read_status, words_status};
-ghost use Rattle.cf_world.specs.declared.outputs.Ending.TheVariants as endings;
-ghost use Rattle.cf_world.specs.declared.outputs.Output.TheVariants as outputs;
+ghost use Rattle.cf_world_scripts.specs.declared.outputs.Ending.TheVariants as endings;
+ghost use Rattle.cf_world_scripts.specs.declared.outputs.Output.TheVariants as outputs;
 
 use crate::checks::{Checked, check_report};
-use crate::outputs::{Ending, Output};
-use crate::scripts::scripted;
 use cf_base::{Mode, Status};
 use cf_cli::{Command, WordsError, command_of};
 use cf_disk::Disk;
 use cf_gen::{gen_script, made_script_is_short, made_script_spells};
-use cf_io::{ReadError, Sink, Source, read_all};
+use cf_io::{Sink, Source};
 use cf_remote::Remote;
 use cf_world_devices::{judge, migrate};
+use cf_world_scripts::{Ending, Finish, Output, scripted, sourced};
 use std::alloc::Global;
-
-/// The most bytes that a script has.
-pub const MOST_SCRIPT_BYTES: usize = 16_777_216;
-
-/// How a run ended, and the device and the remote that it leaves.
-#[derive(Drop)]
-pub struct Finish<D, R> {
-    pub status: Status,
-    pub disk: D,
-    pub remote: R,
-    /// What a person reads of a recorded report that is unlawful: the event, its line in the script, what the report has there, and what
-    /// would have been lawful. None for all else, and where there was no memory for it.
-    pub explanation: Option<String>,
-}
 
 /// Does what the words after the program's name say. `replay` and `filter` read a script from the source, do its events on the disk and
 /// the remote, and write the report to the sink; in `filter` the remote is not used. `state` and `image` do the script of `replay`, and
@@ -257,40 +241,6 @@ fn unread(fail: WordsError) -> Status
     }
 }
 
-/// Reads the source, does its script, and writes what is asked for.
-fn sourced<S: Source, K: Sink, D: Disk + Drop, R: Remote + Drop>(
-    alloc: Global,
-    mode: Mode,
-    output: Output,
-    source: &mut S,
-    sink: &mut K,
-    disk: D,
-    remote: R,
-) -> Finish<D, R>
-    requires report { mode ≡ modes.Filter → output ≡ outputs.Report }
-    ensures text { (text : List ℕ) × IsWhole (S.left source.old) text × OfText D.state R.told output mode disk remote text (K.held sink.old) (K.held sink.new) (sink.new ≡ sink.old) (IsQuiet (S.faults source.old) (S.faults source.new) × IsQuiet (K.faults sink.old) (K.faults sink.new)) result.status result.disk result.remote }
-    ensures remote { IsBeforeEvents result.status → output ≢ outputs.Ending endings.Image → result.remote ≡ remote }
-    ensures filter { mode ≡ modes.Filter → result.remote ≡ remote }
-    ensures only { result.status ≢ Status.Usage }
-    ensures source_fault { result.status ≡ Status.SourceFault → Rose (S.faults source.old) (S.faults source.new) }
-    ensures sink_fault { result.status ≡ Status.SinkFault → Rose (K.faults sink.old) (K.faults sink.new) }
-    ensures device { result.status ≡ Status.BadDevice → IsFit (size_of (D.state disk)) → ⊥ }
-    ensures device_fault { result.status ≡ Status.DeviceFault → output ≢ outputs.Ending endings.Image → HasFailed (D.state disk) (D.state result.disk) }
-    ensures unwritten { IsBeforeWriting result.status → sink.new ≡ sink.old }
-    ensures unused { IsBeforeDevice result.status → result.disk ≡ disk }
-    ensures unexplained { result.explanation ≡ None }
-{
-    match read_all(alloc, source, MOST_SCRIPT_BYTES) {
-        Ok(text) => scripted(alloc, mode, output, &text, sink, disk, remote),
-        Err(fail) => Finish {
-            status: unscripted(fail),
-            disk,
-            remote,
-            explanation: None,
-        },
-    }
-}
-
 /// Reads the script of `replay` from the source, and writes what it leaves.
 fn left<S: Source, K: Sink, D: Disk + Drop, R: Remote + Drop>(
     alloc: Global,
@@ -320,15 +270,4 @@ fn left<S: Source, K: Sink, D: Disk + Drop, R: Remote + Drop>(
         disk,
         remote,
     )
-}
-
-/// The status of a run whose source was not read.
-pub fn unscripted(fail: ReadError) -> Status
-    ensures { result ≡ read_status fail }
-{
-    match fail {
-        ReadError::Fault => Status::SourceFault,
-        ReadError::TooLong => Status::TooLong,
-        ReadError::OutOfMemory => Status::OutOfMemory,
-    }
 }

@@ -1,5 +1,0 @@
-use Rattle.cf_world.proofs.WorldRuns.{gives}
-use Rattle.cf_world.proofs.worlds.parts_of.Goals as goal
-
-pub returns : goal.returns
-returns g c = gives g.D.Disk.state g.A.Actor.acts c.args.acting c.in-Some.acting c.finish.result.0 c.finish.result.1 c.in-Some.is c.finish.ensures.lasts c.finish.ensures.powers c.finish.ensures.holds c.finish.ensures.disk c.finish.ensures.actor

@@ -1,0 +1,5 @@
+pub mod RemoteFaults
+pub mod Led
+pub mod Runs
+pub mod Outputs
+pub mod Steps
