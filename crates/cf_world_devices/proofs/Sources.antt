@@ -1,5 +1,5 @@
 -- What a source may have had left.
-use Rattle.std.proofs.Common.{◌≡◌, ◌<◌, ◌+◌, ℕ, List, length, refl, arith}
+use Rattle.std.proofs.Common.{◌<◌, ◌+◌, ℕ, List, length, refl, arith}
 use Rattle.std.specs.Prelude.{Option, Some, None}
 use Rattle.std.proofs.Math.ListN.{replicate}
 use Rattle.std.proofs.lemmas.List.{length-replicate}

@@ -1,6 +1,6 @@
 //! A script that is read and done, by the command that it is for.
 
-ghost use Rattle.std.specs.Prelude.{◌≡◌, ◌≢◌, ◌≤◌, ◌+◌, IsTrue, List, None, length, ℕ};
+ghost use Rattle.std.specs.Prelude.{◌≡◌, ◌≢◌, ◌≤◌, ◌+◌, IsTrue, List, None, length};
 ghost use Rattle.std.specs.List.{list_all};
 ghost use Rattle.cf_base.specs.declared.events.Event.{Event};
 ghost use Rattle.cf_base.specs.declared.policies.Mode.TheVariants as modes;
