@@ -5,7 +5,7 @@ use Rattle.std.proofs.lemmas.List.{ext_get_or, length-replicate, get_or-replicat
 use Rattle.cf_base.specs.declared.policies.Choice.{Choice}
 use Rattle.cf_base.specs.declared.policies.Choice.TheVariants.{Keep, Drop, Mix}
 use Rattle.cf_disk.specs.Disk.{part, SameBut}
-use Rattle.cf_disk.specs.Images.{Held, IsImage, IsWhole, written, durable, left_by, mixed}
+use Rattle.cf_disk.specs.Images.{Held, IsImage, IsWhole, written, durable, left_by}
 use Rattle.cf_disk.specs.Parts.{length-part, get_or-part}
 use Rattle.cf_disk.specs.Splice.{over, length-over, over_before, over_in, over_after}
 use Rattle.cf_disk.proofs.Mixing.{length-mixed, mixed_stays}
@@ -115,16 +115,3 @@ left_image (Mix n) h whole = record {
   size = length-mixed n h.bytes h.synced h.pending ∙ whole.reads_one.size;
   stays = λ i is. mixed_stays n h.bytes h.synced h.pending i is ∙ whole.reads_one.stays i is;
 }
-
--- where nothing is pending, all is durable
-pub quiet_durable : (bytes synced : List ℕ) (pending : List Bool) → IsWhole (record { bytes = bytes; synced = synced; pending = pending }) → ((i : ℕ) → get_or pending i false ≡ false)
-    → ◌≡◌ {A = Held} (record { bytes = bytes; synced = synced; pending = pending }) (durable bytes)
-quiet_durable bytes synced pending whole quiet = λ i. record { bytes = bytes; synced = copied i; pending = clear i }
-  where
-    copied : synced ≡ bytes
-    copied = ext_get_or 0 synced bytes (sym whole.reads_one.size) (λ i _. sym (whole.reads_one.stays i (quiet i)))
-
-    clear : pending ≡ replicate (length bytes) false
-    clear = ext_get_or false pending (replicate (length bytes) false)
-        (whole.flags ∙ sym whole.reads_one.size ∙ sym (length-replicate (length bytes) false))
-        (λ i _. quiet i ∙ sym (clear_at (length bytes) i))

@@ -1,10 +1,11 @@
 mod Mixing
-mod CoverLaws
 mod ImageLaws
 mod FrontLaws
-mod RangeCuts
+mod SlotLaws
+mod PoolLaws
+mod MarkLaws
+mod CutSteps
 mod MediumLaws
-mod FrontSteps
 mod CutLaws
 mod TrailLaws
 mod PowerLaws

@@ -1,7 +1,10 @@
 -- One step of the loop over pending bytes.
 use Rattle.std.proofs.Common.{◌≡◌, ℕ, zero, suc, ◌+◌, ◌<◌, ◌≤◌, List, [], ◌∷◌, ◌++◌, Bool, true, false, length, get_or, set, take, drop, refl, sym, ◌∙◌, ap, arith, append_assoc}
-use Rattle.std.proofs.lemmas.List.{drop_more, take_more, take_more_set, drop-set-lt, get_or-drop, take-append-drop}
-use Rattle.cf_disk.specs.Images.{mixed, mixed_after, mixed_byte, stirred}
+use Rattle.std.proofs.lemmas.List.{length-append, length-take, length-drop, drop_more, take_more, take_more_set, drop-set-lt, get_or-drop, take-append-drop, drop-drop, take_at, drop_at, take_all, drop_all, append-nil}
+use Rattle.cf_disk.specs.Disk.{part}
+use Rattle.cf_disk.specs.Images.{mixed, mixed_after, mixed_byte, stirred, stirs}
+use Rattle.cf_disk.specs.Parts.{length-part}
+use Rattle.cf_disk.specs.Splice.{over}
 
 module _ (s i : ℕ) (b y : List ℕ) (p : List Bool) (lb : i < length b) (ly : i < length y) (lp : i < length p) where
   opened : (f : Bool) → get_or p i false ≡ f → mixed s (drop i b) (drop i y) (drop i p) ≡ mixed s (get_or b i 0 ∷ drop (i + 1) b) (get_or y i 0 ∷ drop (i + 1) y) (f ∷ drop (i + 1) p)
@@ -22,6 +25,21 @@ module _ (s i : ℕ) (b y : List ℕ) (p : List Bool) (lb : i < length b) (ly : 
       ∙ append_assoc (take i b) (v ∷ []) (mixed (stirred s) (drop (i + 1) b) (drop (i + 1) y) (drop (i + 1) p))
       ∙ ap (λ (u : ℕ). take i b ++ u ∷ mixed (stirred s) (drop (i + 1) b) (drop (i + 1) y) (drop (i + 1) p)) value
       ∙ ap (λ (l : List ℕ). take i b ++ l) (sym (opened true is))
+
+-- the state goes on by the same steps
+module _ (s i : ℕ) (p : List Bool) (lp : i < length p) where
+  pub stirs_synced : get_or p i false ≡ false → stirs s (drop (i + 1) p) ≡ stirs s (drop i p)
+  stirs_synced is = sym (ap (λ (l : List Bool). stirs s l) (drop_more p i false lp ∙ ap (λ (g : Bool). g ∷ drop (i + 1) p) is))
+
+  pub stirs_pending : get_or p i false ≡ true → stirs (stirred s) (drop (i + 1) p) ≡ stirs s (drop i p)
+  stirs_pending is = sym (ap (λ (l : List Bool). stirs s l) (drop_more p i false lp ∙ ap (λ (g : Bool). g ∷ drop (i + 1) p) is))
+
+-- after the last
+pub mixed_last : (i s : ℕ) (b y : List ℕ) (p : List Bool) → length b ≤ i → mixed_after i s b y p ≡ b
+mixed_last i s b y p le = (λ j. take_all i b le j ++ mixed s (drop_all i b le j) (drop i y) (drop i p)) ∙ append-nil b
+
+pub stirs_last : (i s : ℕ) (p : List Bool) → length p ≤ i → stirs s (drop i p) ≡ s
+stirs_last i s p le = ap (λ (l : List Bool). stirs s l) (drop_all i p le)
 
 -- what is not pending stays
 pub mixed_stays : (s : ℕ) (b y : List ℕ) (p : List Bool) (i : ℕ) → get_or p i false ≡ false → get_or (mixed s b y p) i 0 ≡ get_or b i 0
@@ -49,21 +67,66 @@ mixed_quiet s (w ∷ b) (x ∷ y) (false ∷ p) quiet = ap (λ (l : List ℕ). w
 mixed_quiet s (w ∷ b) (x ∷ y) (true ∷ p) quiet = let no : true ≡ false = quiet zero in absurd cc
 
 -- where nothing is pending from one place up to another, the generator goes on there
-pub mixed_skips : (low at s : ℕ) (b y : List ℕ) (p : List Bool) → at ≤ low → ((i : ℕ) → at ≤ i → i < low → get_or p i false ≡ false) → low ≤ length b → length y ≡ length b → length p ≡ length b
+pub mixed_skips : (low at s : ℕ) (b y : List ℕ) (p : List Bool) → at ≤ low → ((i : ℕ) → at ≤ i → i < low → get_or p i false ≡ false) → length y ≡ length b → length p ≡ length b
     → mixed_after low s b y p ≡ mixed_after at s b y p
-mixed_skips zero zero s b y p le quiet fits ly lp = refl
-mixed_skips zero (suc at) s b y p le quiet fits ly lp = absurd (omega arith)
-mixed_skips (suc low) at s [] y p le quiet fits ly lp = absurd (omega arith)
-mixed_skips (suc low) at s (w ∷ b) [] p le quiet fits ly lp = absurd (omega arith)
-mixed_skips (suc low) at s (w ∷ b) (x ∷ y) [] le quiet fits ly lp = absurd (omega arith)
-mixed_skips (suc low) zero s (w ∷ b) (x ∷ y) (false ∷ p) le quiet fits ly lp =
-    ap (λ (l : List ℕ). w ∷ l) (mixed_skips low zero s b y p (omega arith) (λ i from lt. quiet (suc i) (omega arith) (omega (arith, lt))) (omega arith) (omega arith) (omega arith))
-mixed_skips (suc low) zero s (w ∷ b) (x ∷ y) (true ∷ p) le quiet fits ly lp = let no : true ≡ false = quiet zero (omega arith) (omega arith) in absurd cc
-mixed_skips (suc low) (suc at) s (w ∷ b) (x ∷ y) (f ∷ p) le quiet fits ly lp =
-    ap (λ (l : List ℕ). w ∷ l) (mixed_skips low at s b y p (omega arith) (λ i from lt. quiet (suc i) (omega (arith, from)) (omega (arith, lt))) (omega arith) (omega arith) (omega arith))
+mixed_skips zero zero s b y p le quiet ly lp = refl
+mixed_skips zero (suc at) s b y p le quiet ly lp = absurd (omega arith)
+mixed_skips (suc low) zero s [] [] [] le quiet ly lp = refl
+mixed_skips (suc low) (suc at) s [] [] [] le quiet ly lp = refl
+mixed_skips (suc low) at s [] (x ∷ y) p le quiet ly lp = absurd (omega arith)
+mixed_skips (suc low) at s [] [] (f ∷ p) le quiet ly lp = absurd (omega arith)
+mixed_skips (suc low) at s (w ∷ b) [] p le quiet ly lp = absurd (omega arith)
+mixed_skips (suc low) at s (w ∷ b) (x ∷ y) [] le quiet ly lp = absurd (omega arith)
+mixed_skips (suc low) zero s (w ∷ b) (x ∷ y) (false ∷ p) le quiet ly lp =
+    ap (λ (l : List ℕ). w ∷ l) (mixed_skips low zero s b y p (omega arith) (λ i from lt. quiet (suc i) (omega arith) (omega (arith, lt))) (omega arith) (omega arith))
+mixed_skips (suc low) zero s (w ∷ b) (x ∷ y) (true ∷ p) le quiet ly lp = let no : true ≡ false = quiet zero (omega arith) (omega arith) in absurd cc
+mixed_skips (suc low) (suc at) s (w ∷ b) (x ∷ y) (f ∷ p) le quiet ly lp =
+    ap (λ (l : List ℕ). w ∷ l) (mixed_skips low at s b y p (omega arith) (λ i from lt. quiet (suc i) (omega (arith, from)) (omega (arith, lt))) (omega arith) (omega arith))
 
 -- where nothing is pending from a place on, all is done
 pub mixed_done : (at s : ℕ) (b y : List ℕ) (p : List Bool) → ((i : ℕ) → at ≤ i → get_or p i false ≡ false) → mixed_after at s b y p ≡ b
 mixed_done at s b y p quiet =
     ap (λ (l : List ℕ). take at b ++ l) (mixed_quiet s (drop at b) (drop at y) (drop at p) (λ i. get_or-drop at p i false ∙ quiet (at + i) (omega arith)))
     ∙ take-append-drop at b
+
+-- lists one behind the other
+pub mixed_append : (s : ℕ) (b w y z : List ℕ) (p q : List Bool) → length y ≡ length b → length p ≡ length b
+    → mixed s (b ++ w) (y ++ z) (p ++ q) ≡ mixed s b y p ++ mixed (stirs s p) w z q
+mixed_append s [] w [] z [] q ly lp = refl
+mixed_append s [] w (x ∷ y) z p q ly lp = absurd (omega arith)
+mixed_append s [] w [] z (f ∷ p) q ly lp = absurd (omega arith)
+mixed_append s (v ∷ b) w [] z p q ly lp = absurd (omega arith)
+mixed_append s (v ∷ b) w (x ∷ y) z [] q ly lp = absurd (omega arith)
+mixed_append s (v ∷ b) w (x ∷ y) z (false ∷ p) q ly lp = ap (λ (l : List ℕ). v ∷ l) (mixed_append s b w y z p q (omega arith) (omega arith))
+mixed_append s (v ∷ b) w (x ∷ y) z (true ∷ p) q ly lp = ap (λ (l : List ℕ). mixed_byte (stirred s) x v ∷ l) (mixed_append (stirred s) b w y z p q (omega arith) (omega arith))
+
+cut_at : {X : Type 0} (low m : ℕ) (xs : List X) → drop low xs ≡ take m (drop low xs) ++ drop (low + m) xs
+cut_at {X} low m xs = sym (take-append-drop m (drop low xs)) ∙ ap (λ (l : List X). take m (drop low xs) ++ l) (drop-drop m low xs)
+
+-- a part in the middle
+module _ (low m s r : ℕ) (b y new : List ℕ) (p : List Bool) (fits : low + m ≤ length b) (ly : length y ≡ length b) (lp : length p ≡ length b)
+    (new_is : new ≡ mixed s (part low m b) (part low m y) (take m (drop low p))) (r_is : r ≡ stirs s (take m (drop low p))) where
+  size : length new ≡ m
+  size = ap length new_is ∙ length-mixed s (part low m b) (part low m y) (take m (drop low p)) ∙ length-part low m b fits
+
+  front : length (take low b ++ new) ≡ low + m
+  front = omega (arith, length-append (take low b) new, length-take low b, size)
+
+  before : take (low + m) (over low new b) ≡ take low b ++ new
+  before = take_at (take low b ++ new) (drop (low + length new) b) (low + m) front
+
+  behind : drop (low + m) (over low new b) ≡ drop (low + m) b
+  behind = drop_at (take low b ++ new) (drop (low + length new) b) (low + m) front ∙ ap (λ (k : ℕ). drop (low + k) b) size
+
+  whole : mixed_after low s b y p ≡ take low b ++ mixed s (part low m b ++ drop (low + m) b) (part low m y ++ drop (low + m) y) (take m (drop low p) ++ drop (low + m) p)
+  whole = λ j. take low b ++ mixed s (cut_at low m b j) (cut_at low m y j) (cut_at low m p j)
+
+  pub mixed_part : mixed_after (low + m) r (over low new b) y p ≡ mixed_after low s b y p
+  mixed_part =
+      (λ j. before j ++ mixed (r_is j) (behind j) (drop (low + m) y) (drop (low + m) p))
+      ∙ append_assoc (take low b) new (mixed (stirs s (take m (drop low p))) (drop (low + m) b) (drop (low + m) y) (drop (low + m) p))
+      ∙ ap (λ (l : List ℕ). take low b ++ (l ++ mixed (stirs s (take m (drop low p))) (drop (low + m) b) (drop (low + m) y) (drop (low + m) p))) new_is
+      ∙ ap (λ (l : List ℕ). take low b ++ l) (sym (mixed_append s (part low m b) (drop (low + m) b) (part low m y) (drop (low + m) y) (take m (drop low p)) (drop (low + m) p)
+      (length-part low m y (omega arith) ∙ sym (length-part low m b fits))
+      (omega (arith, length-take m (drop low p), length-drop low p, length-part low m b fits))))
+      ∙ sym whole

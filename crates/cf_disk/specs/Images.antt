@@ -1,9 +1,7 @@
 -- What a disk in memory holds, what its calls do to that, and which images a crash may leave of it.
-use Rattle.std.specs.Prelude.{◌+◌, ◌≡◌, ℕ, Bool, true, false, List, length, get_or, replicate, take, drop, ◌*◌, ◌/◌, ◌%◌, ◌^◌, ◌==◌, if◌then◌else◌, ◌∷◌, ◌++◌}
+use Rattle.std.specs.Prelude.{◌+◌, ◌≡◌, ℕ, Bool, true, false, List, length, get_or, replicate, take, drop, ◌*◌, ◌/◌, ◌%◌, ◌^◌, ◌==◌, if◌then◌else◌, [], ◌∷◌, ◌++◌}
 use Rattle.cf_base.specs.declared.policies.Choice.{Choice}
 use Rattle.cf_base.specs.declared.policies.Choice.TheVariants.{Keep, Drop, Mix}
-use Rattle.cf_disk.specs.Covering.{AreCovered, AreWithin, IsOutside}
-use Rattle.cf_disk.specs.declared.ranges.Range.{Range}
 use Rattle.cf_disk.specs.Splice.{over}
 
 -- what a read gives, what the last sync left, and which places were written since
@@ -33,16 +31,6 @@ pub record IsWhole (h : Held) : Type 0 where
   pub flags : length h.pending ≡ length h.synced
   pub reads_one : IsImage h h.bytes
 
--- so a medium in memory keeps it: the ranges lie inside, and nothing is pending outside of them
-pub record IsMedium (ranges : List Range) (h : Held) : Type 0 where
-  pub whole : IsWhole h
-  pub within : AreWithin (length h.bytes) ranges
-  pub covered : AreCovered ranges h.pending
-
--- outside of the ranges the bytes are the synced ones
-abbrev pub IsSyncedBeside : List Range → List ℕ → List ℕ → Type 0
-IsSyncedBeside ranges synced bytes = (i : ℕ) → IsOutside ranges i → get_or bytes i 0 ≡ get_or synced i 0
-
 -- the next number of the generator
 unfoldable pub stirred : ℕ → ℕ
 stirred s = (s * 6364136223846793005 + 1442695040888963407) % 2 ^ 64
@@ -57,6 +45,12 @@ abbrev pub mixed : ℕ → List ℕ → List ℕ → List Bool → List ℕ
 mixed s (w ∷ written) (y ∷ synced) (true ∷ pending) = mixed_byte (stirred s) y w ∷ mixed (stirred s) written synced pending
 mixed s (w ∷ written) (y ∷ synced) (false ∷ pending) = w ∷ mixed s written synced pending
 mixed s written synced pending = written
+
+-- the generator behind them
+abbrev pub stirs : ℕ → List Bool → ℕ
+stirs s [] = s
+stirs s (true ∷ pending) = stirs (stirred s) pending
+stirs s (false ∷ pending) = stirs s pending
 
 -- the same from a place on, before which all stays
 abbrev pub mixed_after : ℕ → ℕ → List ℕ → List ℕ → List Bool → List ℕ

@@ -1,5 +1,4 @@
 pub mod Disk
-pub mod Covering
 pub mod Images
 pub mod MemState
 pub mod Splice
@@ -11,3 +10,4 @@ pub mod Trails
 pub mod TrailParts
 pub mod PowerBooks
 pub mod Fronts
+pub mod Keeping

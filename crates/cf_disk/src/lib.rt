@@ -8,10 +8,10 @@ mod counters;
 mod disks;
 mod media;
 mod mem_disks;
+mod old_pages;
 mod patches;
 mod power_cuts;
 mod powers;
-mod ranges;
 mod trace_disks;
 mod trails;
 

@@ -1,12 +1,10 @@
 //! Parts of vectors: bytes put over others, and flags set.
 
-ghost use Rattle.std.specs.Prelude.{◌≡◌, ◌≤◌, ◌<◌, ◌+◌, ◌-◌, ◌^◌, List, length, replicate, false, IfOk, vec_capacity};
+ghost use Rattle.std.specs.Prelude.{◌≡◌, ◌≤◌, ◌<◌, ◌+◌, ◌^◌, ◌++◌, length, replicate, false, IfOk, vec_capacity};
 ghost use Rattle.cf_disk.specs.Disk.{part};
 ghost use Rattle.cf_disk.specs.Fronts.{filled};
-ghost use Rattle.cf_disk.specs.Images.{durable, Held, IsMedium};
 ghost use Rattle.cf_disk.specs.Splice.{over};
 
-use crate::ranges::Range;
 use cf_base::OutOfMemory;
 use std::alloc::Global;
 
@@ -59,33 +57,13 @@ pub(crate) fn mark_vec(flags: &mut Vec<bool>, at: usize, n: usize, value: bool)
     mark(flags, at, n, value);
 }
 
-// Copies the bytes of a range.
-pub(crate) fn copy_range(bytes: &mut Vec<u8>, src: &Vec<u8>, low: usize, high: usize)
-    requires order { low ≤ high }
-    requires room { high ≤ length bytes.old.items }
-    requires source { high ≤ length src.now.items }
-    ensures items { bytes.new.items ≡ over low (part low (high - low) src.now.items) bytes.old.items }
-    ensures capacity { vec_capacity bytes.new ≡ vec_capacity bytes.old }
+// More bytes behind the others, for which there is room.
+pub(crate) fn append(bytes: &mut Vec<u8>, src: &[u8])
+    requires { length bytes.old.items + length src.now ≤ vec_capacity bytes.old }
+    ensures items { bytes.new.items ≡ bytes.old.items ++ src.now }
+    ensures capacity { vec_capacity bytes.old ≤ vec_capacity bytes.new }
 {
-    put(bytes, low, &src[low..high]);
-}
-
-// Copies the bytes of each range to the synced ones and clears its flags. Ranges may overlap. Then all is durable.
-pub(crate) fn sync_ranges(
-    bytes: &Vec<u8>,
-    synced: &mut Vec<u8>,
-    pending: &mut Vec<bool>,
-    ranges: &[Range],
-)
-    requires { IsMedium ranges.now (record { bytes = bytes.now.items; synced = synced.old.items; pending = pending.old.items }) }
-    ensures items { ◌≡◌ {A = Held} (record { bytes = bytes.now.items; synced = synced.new.items; pending = pending.new.items }) (durable bytes.now.items) }
-    ensures synced { vec_capacity synced.new ≡ vec_capacity synced.old }
-    ensures pending { vec_capacity pending.new ≡ vec_capacity pending.old }
-{
-    for range in ranges {
-        copy_range(synced, bytes, range.low, range.high);
-        mark_vec(pending, range.low, range.high - range.low, false);
-    }
+    bytes.extend_from_slice(src).unwrap();
 }
 
 // Zeros behind the bytes, where they are fewer.
@@ -107,6 +85,17 @@ pub(crate) fn fill_up_flags(flags: &mut Vec<bool>, n: usize)
 {
     if n > flags.len() {
         flags.resize(n, false).unwrap();
+    }
+}
+
+// The same of slots, which are free.
+pub(crate) fn fill_up_slots(slots: &mut Vec<usize>, n: usize)
+    requires { n ≤ vec_capacity slots.old }
+    ensures items { slots.new.items ≡ filled n 0 slots.old.items }
+    ensures capacity { vec_capacity slots.old ≤ vec_capacity slots.new }
+{
+    if n > slots.len() {
+        slots.resize(n, 0).unwrap();
     }
 }
 

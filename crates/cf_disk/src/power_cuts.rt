@@ -1,11 +1,14 @@
-//! What a power cut leaves of the pending bytes. It looks at the ranges that cover them, and not at what lies between.
+//! What a power cut leaves of the pending bytes. It looks at the pages that were written, and not at what lies between.
 
-ghost use Rattle.std.specs.Prelude.{◌≡◌, ◌≤◌, List, length, vec_capacity};
-ghost use Rattle.cf_disk.specs.Covering.{AreWithin};
-ghost use Rattle.cf_disk.specs.Images.{left_by, mixed, mixed_after, mixed_byte, stirred, Held, IsMedium, IsSyncedBeside};
+ghost use Rattle.std.specs.Prelude.{◌≡◌, ◌≤◌, ◌<◌, ◌+◌, ◌*◌, ◌^◌, ℕ, List, length, get_or, vec_capacity};
+ghost use Rattle.cf_disk.specs.Disk.{part};
+ghost use Rattle.cf_disk.specs.Fronts.{filled};
+ghost use Rattle.cf_disk.specs.Images.{left_by, mixed, mixed_after, mixed_byte, stirred, stirs};
+ghost use Rattle.cf_disk.specs.Keeping.{held_by, old_bytes, written_places, IsMedium, IsSound, PutsPage, PutsPages};
+ghost use Rattle.cf_disk.specs.Splice.{over};
 
+use crate::old_pages::{OldPages, PAGE, number_at};
 use crate::patches::put;
-use crate::ranges::{Range, next_after};
 use cf_base::Choice;
 
 // The next number of the generator.
@@ -26,16 +29,15 @@ fn pick(s: u64, synced: u8, written: u8) -> u8
     bytes[(s / (1 << 62)) as usize]
 }
 
-// The pending bytes of a range by the generator, from a state to the one that is given.
-fn mix(bytes: &mut [u8], synced: &[u8], pending: &[bool], range: Range, state: u64) -> u64
+// The pending bytes by the generator, from a state to the one that is given.
+fn mix(bytes: &mut [u8], synced: &[u8], pending: &[bool], state: u64) -> u64
     requires synced { length synced.now ≡ length bytes.old }
     requires pending { length pending.now ≡ length bytes.old }
-    requires order { range.low ≤ range.high }
-    requires room { range.high ≤ length bytes.old }
-    ensures { mixed_after range.high result bytes.new synced.now pending.now ≡ mixed_after range.low state bytes.old synced.now pending.now }
+    ensures bytes { bytes.new ≡ mixed state bytes.old synced.now pending.now }
+    ensures state { result ≡ stirs state pending.now }
 {
     let mut s = state;
-    for i in range.low..range.high {
+    for i in 0..bytes.len() {
         if pending[i] {
             s = stir(s);
             bytes[i] = pick(s, synced[i], bytes[i]);
@@ -44,54 +46,113 @@ fn mix(bytes: &mut [u8], synced: &[u8], pending: &[bool], range: Range, state: u
     s
 }
 
-// The pending bytes by the generator, which starts with the seed: range by range from the lowest place on, as the
+// The same of those from a place on.
+fn mix_part(bytes: &mut [u8], low: usize, synced: &[u8], pending: &[bool], state: u64) -> u64
+    requires synced { low + length synced.now ≤ length bytes.old }
+    requires pending { length pending.now ≡ length synced.now }
+    ensures bytes { bytes.new ≡ over low (mixed state (part low (length synced.now) bytes.old) synced.now pending.now) bytes.old }
+    ensures state { result ≡ stirs state pending.now }
+{
+    mix(&mut bytes[low..low + synced.len()], synced, pending, state)
+}
+
+// The same of a page, which has none where it is not kept.
+fn mix_page(bytes: &mut [u8], pages: &OldPages, page: usize, state: u64) -> u64
+    requires sound { IsSound pages.now }
+    requires front { page * 4096 < length bytes.old }
+    ensures { (n room : ℕ) (first : List ℕ) → length first ≡ length bytes.old → IsMedium n room first pages.now → mixed_after (page * 4096 + 4096) result (filled n 0 bytes.new) (old_bytes n first pages.now) (written_places n pages.now) ≡ mixed_after (page * 4096) state (filled n 0 bytes.old) (old_bytes n first pages.now) (written_places n pages.now) }
+{
+    let slot = number_at(&pages.slots, page);
+    if slot == 0 {
+        return state;
+    }
+    let low = page * PAGE;
+    let start = (slot - 1) * PAGE;
+    let end = start + PAGE.min(bytes.len() - low);
+    mix_part(
+        bytes,
+        low,
+        &pages.bytes[start..end],
+        &pages.flags[start..end],
+        state,
+    )
+}
+
+// Where pages begin: the lowest of them, or an end that lies before them.
+fn lowest(pages: &[usize], end: usize) -> usize
+    ensures { (k : ℕ) → k < length pages.now → result ≤ get_or pages.now k 0 }
+{
+    let mut low = end;
+    for page in pages {
+        low = low.min(*page);
+    }
+    low
+}
+
+// Where they end: behind the highest of them.
+fn end_of(pages: &[usize]) -> usize
+    requires { (k : ℕ) → k < length pages.now → get_or pages.now k 0 + 1 < 2 ^ 64 }
+    ensures { (k : ℕ) → k < length pages.now → get_or pages.now k 0 < result }
+{
+    let mut end = 0;
+    for page in pages {
+        end = end.max(*page + 1);
+    }
+    end
+}
+
+// The pending bytes by the generator, which starts with the seed: page by page from the lowest place on, as the
 // generator has to meet them in order.
-fn mix_ranges(bytes: &mut [u8], synced: &[u8], pending: &[bool], ranges: &[Range], seed: u64)
-    requires { IsMedium ranges.now (record { bytes = bytes.old; synced = synced.now; pending = pending.now }) }
-    ensures { bytes.new ≡ mixed seed bytes.old synced.now pending.now }
+fn mix_pages(bytes: &mut [u8], pages: &OldPages, seed: u64)
+    requires { IsSound pages.now }
+    ensures { (n room : ℕ) → IsMedium n room bytes.old pages.now → filled n 0 bytes.new ≡ mixed seed (filled n 0 bytes.old) (old_bytes n bytes.old pages.now) (written_places n pages.now) }
 {
     let mut state = seed;
-    let mut at = 0;
-    while let Some(range) = next_after(ranges, at) {
-        state = mix(bytes, synced, pending, range, state);
-        at = range.high;
+    let end = end_of(&pages.pages).min(bytes.len().div_ceil(PAGE));
+    for page in lowest(&pages.pages, end)..end {
+        state = mix_page(bytes, pages, page, state);
     }
 }
 
-// The synced bytes of each range, in any order.
-fn drop_ranges(bytes: &mut [u8], synced: &[u8], ranges: &[Range])
-    requires size { length synced.now ≡ length bytes.old }
-    requires within { AreWithin (length synced.now) ranges.now }
-    requires beside { IsSyncedBeside ranges.now synced.now bytes.old }
-    ensures { bytes.new ≡ synced.now }
+// The synced bytes of the page with a number in the pool.
+fn drop_page(bytes: &mut [u8], pages: &OldPages, number: usize)
+    requires sound { IsSound pages.now }
+    requires number { number < length pages.now.pages.items }
+    ensures { PutsPage pages.now number bytes.old bytes.new }
 {
-    for range in ranges {
-        put(bytes, range.low, &synced[range.low..range.high]);
+    let low = (number_at(&pages.pages, number) * PAGE).min(bytes.len());
+    let start = number * PAGE;
+    let end = start + PAGE.min(bytes.len() - low);
+    put(bytes, low, &pages.bytes[start..end]);
+}
+
+// The synced bytes of each page, in any order.
+fn drop_pages(bytes: &mut [u8], pages: &OldPages)
+    requires { IsSound pages.now }
+    ensures { PutsPages pages.now (length pages.now.pages.items) bytes.old bytes.new }
+{
+    for number in 0..pages.pages.len() {
+        drop_page(bytes, pages, number);
     }
 }
 
-fn cut(bytes: &mut [u8], synced: &[u8], pending: &[bool], ranges: &[Range], choice: Choice)
-    requires { IsMedium ranges.now (record { bytes = bytes.old; synced = synced.now; pending = pending.now }) }
-    ensures { bytes.new ≡ left_by choice (record { bytes = bytes.old; synced = synced.now; pending = pending.now }) }
+fn cut(bytes: &mut [u8], pages: &OldPages, choice: Choice)
+    requires { IsSound pages.now }
+    ensures { (n room : ℕ) → IsMedium n room bytes.old pages.now → filled n 0 bytes.new ≡ left_by choice (held_by n bytes.old pages.now) }
 {
     match choice {
         Choice::Keep => {}
-        Choice::Drop => drop_ranges(bytes, synced, ranges),
-        Choice::Mix(seed) => mix_ranges(bytes, synced, pending, ranges, seed),
+        Choice::Drop => drop_pages(bytes, pages),
+        Choice::Mix(seed) => mix_pages(bytes, pages, seed),
     }
 }
 
-/// What a power cut leaves of the bytes, of which those that are pending lie in the ranges.
-pub(crate) fn cut_vec(
-    bytes: &mut Vec<u8>,
-    synced: &Vec<u8>,
-    pending: &Vec<bool>,
-    ranges: &[Range],
-    choice: Choice,
-)
-    requires { IsMedium ranges.now (record { bytes = bytes.old.items; synced = synced.now.items; pending = pending.now.items }) }
-    ensures items { bytes.new.items ≡ left_by choice (record { bytes = bytes.old.items; synced = synced.now.items; pending = pending.now.items }) }
+/// What a power cut leaves of the bytes, of which those that are pending lie in the pages.
+pub(crate) fn cut_vec(bytes: &mut Vec<u8>, pages: &OldPages, choice: Choice)
+    requires { IsSound pages.now }
+    ensures size { length bytes.new.items ≡ length bytes.old.items }
+    ensures items { (n room : ℕ) → IsMedium n room bytes.old.items pages.now → filled n 0 bytes.new.items ≡ left_by choice (held_by n bytes.old.items pages.now) }
     ensures capacity { vec_capacity bytes.new ≡ vec_capacity bytes.old }
 {
-    cut(bytes, synced, pending, ranges, choice);
+    cut(bytes, pages, choice);
 }

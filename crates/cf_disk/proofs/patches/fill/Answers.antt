@@ -1,5 +1,5 @@
 use Rattle.std.proofs.Common.{◌≡◌, ℕ, ◌+◌, suc, arith}
-use Rattle.cf_disk.proofs.MediumLaws.{set_more}
+use Rattle.cf_disk.proofs.FrontLaws.{set_more}
 use Rattle.cf_disk.proofs.patches.fill.Goals as goal
 
 pub loop-i-preserved : goal.loop-i-preserved

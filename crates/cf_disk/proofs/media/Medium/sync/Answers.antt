@@ -1,18 +1,24 @@
-use Rattle.std.proofs.Common.{arith}
+use Rattle.std.proofs.Common.{◌∙◌, ap, arith}
 use Rattle.std.specs.Prelude.{vec_capacity}
-use Rattle.cf_disk.proofs.FrontSteps.{front_synced, synced_now}
+use Rattle.cf_disk.specs.Images.{Held, durable}
+use Rattle.cf_disk.proofs.MediumLaws.{clean_held, clean_medium, now_whole}
 use Rattle.cf_disk.proofs.media.Medium.sync.Goals as goal
+
+pub clear-requires : goal.clear-requires
+clear-requires c = c.self.invariant.sound
 
 pub invariant_of-self : goal.invariant_of-self
 invariant_of-self c =
     let i = c.self.inside in
-    front_synced i.size i.ranges (vec_capacity i.bytes) (vec_capacity i.synced) (vec_capacity i.pending) i.bytes.items i.synced.items i.pending.items c.self.invariant c.args.self.now c.self.view_is
-    c.sync_ranges.new.synced.items c.sync_ranges.new.pending.items c.sync_ranges.ensures.items
-    c.clear.new.self (vec_capacity c.sync_ranges.new.synced) (vec_capacity c.sync_ranges.new.pending)
-    c.clear.ensures (omega (arith, c.sync_ranges.ensures.synced)) (omega (arith, c.sync_ranges.ensures.pending))
+    clean_medium i.size i.bytes.items c.clear.new.self c.clear.ensures.clean c.self.invariant.fits (vec_capacity i.bytes) c.clear.ensures.sound
+    (omega (arith, c.self.invariant.inside, c.clear.ensures.most)) c.self.invariant.room_is
 
 pub returns-clause-is : goal.returns-clause-is
 returns-clause-is c =
     let i = c.self.inside in
-    synced_now i.size i.ranges (vec_capacity i.bytes) (vec_capacity i.synced) (vec_capacity i.pending) i.bytes.items i.synced.items i.pending.items c.self.invariant c.args.self.now c.self.view_is
-    c.sync_ranges.new.synced.items c.sync_ranges.new.pending.items c.sync_ranges.ensures.items
+    clean_held i.size i.bytes.items c.clear.new.self c.clear.ensures.clean c.self.invariant.fits ∙ ap (λ (h : Held). durable h.bytes) c.self.view_is
+
+pub returns-clause-whole : goal.returns-clause-whole
+returns-clause-whole c =
+    let i = c.self.inside in
+    now_whole i.size (vec_capacity i.bytes) i.bytes.items i.pages c.self.invariant c.args.self.now c.self.view_is

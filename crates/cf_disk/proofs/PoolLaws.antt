@@ -1,0 +1,220 @@
+-- How the pages go on that are kept.
+use Rattle.std.proofs.Common.{◌≡◌, inl, inr, ℕ, suc, ◌+◌, ◌-◌, ◌*◌, ◌/◌, ◌%◌, ◌^◌, ◌<◌, ◌≤◌, min, set, Bool, false, List, [], ◌∷◌, ◌++◌, length, get_or, refl, sym, ◌∙◌, ap, arith}
+use Rattle.std.specs.Prelude.{vec_capacity}
+use Rattle.std.proofs.lemmas.Bool.{cases_lt, cases_eq}
+use Rattle.std.proofs.lemmas.List.{length-append, length-set, length_push, get_or_push, get_or_past, get_or_append_left, get_or-append_right, get_or-set_same, get_or-set_other}
+use Rattle.cf_disk.specs.declared.old_pages.OldPages.{OldPages}
+use Rattle.cf_disk.specs.Disk.{part}
+use Rattle.cf_disk.specs.Fronts.{filled}
+use Rattle.cf_disk.specs.Keeping.{free, in_slot, slot_of, IsSound, KeepsPages}
+use Rattle.cf_disk.specs.Parts.{length-part, get_or-part}
+use Rattle.cf_disk.proofs.FrontLaws.{length-filled, filled_any}
+use Rattle.cf_disk.proofs.ImageLaws.{flags_size}
+use Rattle.cf_disk.proofs.SlotLaws.{free_set, free_filled, in_slot_same, in_slot_free, in_slot_used}
+
+pub keeps_then : (bytes : List ℕ) (a b c : ℕ) (x y z : OldPages) → KeepsPages bytes a b x y → KeepsPages bytes b c y z → KeepsPages bytes a c x z
+keeps_then bytes a b c x y z p q = record {
+  bytes_stay = λ i. q.bytes_stay i ∙ p.bytes_stay i;
+  flags_stay = λ i. q.flags_stay i ∙ p.flags_stay i;
+  kept = λ k from to. elim (cases_lt k b) [
+    | inl low ↦ q.stays k (p.kept k from low)
+    | inr high ↦ q.kept k high to
+  ];
+  stays = λ k some. q.stays k (p.stays k some);
+  most = q.most ∙ p.most;
+}
+
+pub keeps_none : (bytes : List ℕ) (a : ℕ) (x : OldPages) → KeepsPages bytes a a x x
+keeps_none bytes a x = record {
+  bytes_stay = λ i. refl;
+  flags_stay = λ i. refl;
+  kept = λ k from to. absurd (omega (arith, from, to));
+  stays = λ k some. some;
+  most = refl;
+}
+
+-- slots for more pages, all of them free
+module _ (o new : OldPages) (pages : ℕ) (slots_are : new.slots.items ≡ filled pages 0 o.slots.items) (pages_are : new.pages.items ≡ o.pages.items)
+    (bytes_are : new.bytes.items ≡ o.bytes.items) (flags_are : new.flags.items ≡ o.flags.items) (most_is : new.most ≡ o.most) where
+  slot : (p : ℕ) → get_or new.slots.items p 0 ≡ get_or o.slots.items p 0
+  slot p = ap (λ (l : List ℕ). get_or l p 0) slots_are ∙ filled_any 0 pages p o.slots.items
+
+  pub reach_keeps : (bytes : List ℕ) (a : ℕ) → KeepsPages bytes a a o new
+  reach_keeps bytes a = record {
+    bytes_stay = λ i. (λ j. in_slot 0 (slot (i / 4096) j) (bytes_are j) (get_or bytes i 0) (i % 4096));
+    flags_stay = λ i. (λ j. in_slot false (slot (i / 4096) j) (flags_are j) false (i % 4096));
+    kept = λ k from to. absurd (omega (arith, from, to));
+    stays = λ k some. omega (arith, some, slot k);
+    most = most_is;
+  }
+
+  pub reach_sound : IsSound o → pages ≤ o.most → vec_capacity o.slots ≤ vec_capacity new.slots → vec_capacity o.pages ≤ vec_capacity new.pages
+      → vec_capacity o.bytes ≤ vec_capacity new.bytes → vec_capacity o.flags ≤ vec_capacity new.flags → IsSound new
+  reach_sound sound le slots_room pages_room bytes_room flags_room = record {
+    back = λ p k is. let was = sound.back p k (sym (slot p) ∙ is) in (omega (arith, was.0, size), page k ∙ was.1);
+    there = λ k lt. ap (λ (p : ℕ). get_or new.slots.items p 0) (page k) ∙ slot (get_or o.pages.items k 0) ∙ sound.there k (omega (arith, lt, size));
+    bytes_size = omega (arith, ap length bytes_are, sound.bytes_size, size);
+    flags_size = omega (arith, ap length flags_are, sound.flags_size, size);
+    few = omega (arith, size, ap free slots_are, free_filled pages o.slots.items, ap length slots_are, length-filled 0 pages o.slots.items, sound.few);
+    fits = omega (arith, ap length slots_are, length-filled 0 pages o.slots.items, sound.fits, le, most_is);
+    small = omega (arith, sound.small, most_is);
+    slots_room = omega (arith, sound.slots_room, slots_room, most_is);
+    pages_room = omega (arith, sound.pages_room, pages_room, most_is);
+    bytes_room = omega (arith, sound.bytes_room, bytes_room, most_is);
+    flags_room = omega (arith, sound.flags_room, flags_room, most_is);
+  }
+    where
+      size : length new.pages.items ≡ length o.pages.items
+      size = ap length pages_are
+
+      page : (k : ℕ) → get_or new.pages.items k 0 ≡ get_or o.pages.items k 0
+      page k = ap (λ (l : List ℕ). get_or l k 0) pages_are
+
+-- a page that is kept already
+pub keeps_kept : (bytes : List ℕ) (p : ℕ) (x y : OldPages) → KeepsPages bytes p p x y → 0 < get_or y.slots.items p 0 → KeepsPages bytes p (p + 1) x y
+keeps_kept bytes p x y keeps some = record {
+  bytes_stay = keeps.bytes_stay;
+  flags_stay = keeps.flags_stay;
+  kept = λ k from to. let same : p ≡ k = omega (arith, from, to) in omega (arith, some, ap (λ (q : ℕ). get_or y.slots.items q 0) same);
+  stays = keeps.stays;
+  most = keeps.most;
+}
+
+-- one page more is kept
+module _ (o new : OldPages) (bytes src : List ℕ) (page n used : ℕ) (sound : IsSound o) (n_is : length o.pages.items ≡ n) (used_is : used ≡ suc n)
+    (reached : page < length o.slots.items) (is_free : get_or o.slots.items page 0 ≡ 0) (front : page * 4096 ≤ length bytes)
+    (src_is : src ≡ part (page * 4096) (min (page * 4096 + 4096) (length bytes) - page * 4096) bytes)
+    (slots_are : new.slots.items ≡ set o.slots.items page used) (pages_are : new.pages.items ≡ o.pages.items ++ page ∷ [])
+    (bytes_are : new.bytes.items ≡ filled (used * 4096) 0 (o.bytes.items ++ src)) (flags_are : new.flags.items ≡ filled (used * 4096) false o.flags.items)
+    (most_is : new.most ≡ o.most) where
+  slots_now : new.slots.items ≡ set o.slots.items page (suc n)
+  slots_now = slots_are ∙ ap (λ (k : ℕ). set o.slots.items page k) used_is
+
+  here : get_or new.slots.items page 0 ≡ suc n
+  here = ap (λ (l : List ℕ). get_or l page 0) slots_now ∙ get_or-set_same o.slots.items page (suc n) 0 reached
+
+  beside : (p : ℕ) → (p ≡ page → ⊥) → get_or new.slots.items p 0 ≡ get_or o.slots.items p 0
+  beside p ne = ap (λ (l : List ℕ). get_or l p 0) slots_now ∙ get_or-set_other o.slots.items page p (suc n) 0 ne
+
+  size : length new.pages.items ≡ suc n
+  size = omega (arith, ap length pages_are, length_push o.pages.items page, n_is)
+
+  last : get_or new.pages.items n 0 ≡ page
+  last = ap (λ (l : List ℕ). get_or l n 0) pages_are ∙ get_or_push o.pages.items page 0 n n_is
+
+  earlier : (k : ℕ) → k < n → get_or new.pages.items k 0 ≡ get_or o.pages.items k 0
+  earlier k lt = ap (λ (l : List ℕ). get_or l k 0) pages_are ∙ get_or_append_left o.pages.items (page ∷ []) 0 k (omega arith)
+
+  len : ℕ
+  len = min (page * 4096 + 4096) (length bytes) - page * 4096
+
+  src_size : length src ≡ min (page * 4096 + 4096) (length bytes) - page * 4096
+  src_size = ap length src_is ∙ length-part (page * 4096) (min (page * 4096 + 4096) (length bytes) - page * 4096) bytes (omega arith)
+
+  src_at : (r : ℕ) → r < 4096 → get_or src r 0 ≡ get_or bytes (page * 4096 + r) 0
+  src_at r lt = elim (cases_lt (page * 4096 + r) (length bytes)) [
+    | inl inside ↦ ap (λ (l : List ℕ). get_or l r 0) src_is ∙ get_or-part (page * 4096) (min (page * 4096 + 4096) (length bytes) - page * 4096) bytes r (omega (arith, inside))
+    | inr behind ↦ get_or_past src r 0 (omega (arith, behind, src_size)) ∙ sym (get_or_past bytes (page * 4096 + r) 0 behind)
+  ]
+
+  bytes_before : (j : ℕ) → j < n * 4096 → get_or new.bytes.items j 0 ≡ get_or o.bytes.items j 0
+  bytes_before j lt =
+      ap (λ (l : List ℕ). get_or l j 0) bytes_are
+      ∙ filled_any 0 (used * 4096) j (o.bytes.items ++ src)
+      ∙ get_or_append_left o.bytes.items src 0 j (omega (arith, sound.bytes_size))
+
+  bytes_here : (r : ℕ) → r < 4096 → get_or new.bytes.items (n * 4096 + r) 0 ≡ get_or bytes (page * 4096 + r) 0
+  bytes_here r lt =
+      ap (λ (l : List ℕ). get_or l (n * 4096 + r) 0) bytes_are
+      ∙ filled_any 0 (used * 4096) (n * 4096 + r) (o.bytes.items ++ src)
+      ∙ get_or-append_right o.bytes.items src (n * 4096) (n * 4096 + r) 0 (omega (arith, sound.bytes_size)) (omega arith)
+      ∙ (let at : n * 4096 + r - n * 4096 ≡ r = omega arith in ap (λ (k : ℕ). get_or src k 0) at)
+      ∙ src_at r lt
+
+  flags_any : (j : ℕ) → get_or new.flags.items j false ≡ get_or o.flags.items j false
+  flags_any j = ap (λ (l : List Bool). get_or l j false) flags_are ∙ filled_any false (used * 4096) j o.flags.items
+
+  pub add_keeps : KeepsPages bytes page (page + 1) o new
+  add_keeps = record {
+    bytes_stay = λ i. elim (cases_eq (i / 4096) page) [
+      | inl same ↦
+          in_slot_used 0 (slot_of new i) n new.bytes.items (get_or bytes i 0) (i % 4096) (ap (λ (p : ℕ). get_or new.slots.items p 0) same ∙ here)
+          ∙ bytes_here (i % 4096) (omega arith)
+          ∙ (let at : page * 4096 + i % 4096 ≡ i = omega (arith, same) in ap (λ (k : ℕ). get_or bytes k 0) at)
+          ∙ sym (in_slot_free 0 (slot_of o i) o.bytes.items (get_or bytes i 0) (i % 4096) (ap (λ (p : ℕ). get_or o.slots.items p 0) same ∙ is_free))
+      | inr other ↦
+          ap (λ (s : ℕ). in_slot 0 s new.bytes.items (get_or bytes i 0) (i % 4096)) (beside (i / 4096) other)
+          ∙ in_slot_same 0 (slot_of o i) n o.bytes.items new.bytes.items (get_or bytes i 0) (i % 4096) (omega arith) (λ k is. omega (arith, (sound.back (i / 4096) k is).0)) bytes_before
+    ];
+    flags_stay = λ i. elim (cases_eq (i / 4096) page) [
+      | inl same ↦
+          in_slot_used false (slot_of new i) n new.flags.items false (i % 4096) (ap (λ (p : ℕ). get_or new.slots.items p 0) same ∙ here)
+          ∙ flags_any (n * 4096 + i % 4096)
+          ∙ get_or_past o.flags.items (n * 4096 + i % 4096) false (omega (arith, sound.flags_size))
+          ∙ sym (in_slot_free false (slot_of o i) o.flags.items false (i % 4096) (ap (λ (p : ℕ). get_or o.slots.items p 0) same ∙ is_free))
+      | inr other ↦
+          ap (λ (s : ℕ). in_slot false s new.flags.items false (i % 4096)) (beside (i / 4096) other)
+          ∙ in_slot_same false (slot_of o i) n o.flags.items new.flags.items false (i % 4096) (omega arith) (λ k is. omega (arith, (sound.back (i / 4096) k is).0)) (λ j lt. flags_any j)
+    ];
+    kept = λ p from to. let same : page ≡ p = omega (arith, from, to) in omega (arith, here, ap (λ (q : ℕ). get_or new.slots.items q 0) same);
+    stays = λ p some. elim (cases_eq p page) [
+      | inl same ↦ omega (arith, here, ap (λ (q : ℕ). get_or new.slots.items q 0) same)
+      | inr other ↦ omega (arith, some, beside p other)
+    ];
+    most = most_is;
+  }
+
+  pub add_sound : vec_capacity o.slots ≤ vec_capacity new.slots → vec_capacity o.pages ≤ vec_capacity new.pages
+      → vec_capacity o.bytes ≤ vec_capacity new.bytes → vec_capacity o.flags ≤ vec_capacity new.flags → IsSound new
+  add_sound slots_room pages_room bytes_room flags_room = record {
+    back = λ p k is. elim (cases_eq p page) [
+      | inl same ↦
+          let number : n ≡ k = omega (arith, here, ap (λ (q : ℕ). get_or new.slots.items q 0) same, is) in
+          (omega (arith, size, number), ap (λ (j : ℕ). get_or new.pages.items j 0) (sym number) ∙ last ∙ sym same)
+      | inr other ↦ let was = sound.back p k (sym (beside p other) ∙ is) in
+          (omega (arith, size, was.0, n_is), earlier k (omega (arith, was.0, n_is)) ∙ was.1)
+    ];
+    there = λ k lt. elim (cases_lt k n) [
+      | inl low ↦
+          let was = sound.there k (omega (arith, low, n_is)) in
+          ap (λ (p : ℕ). get_or new.slots.items p 0) (earlier k low)
+          ∙ beside (get_or o.pages.items k 0) (λ same. omega (arith, was, is_free, ap (λ (p : ℕ). get_or o.slots.items p 0) same))
+          ∙ was
+      | inr high ↦
+          let number : k ≡ n = omega (arith, high, lt, size) in
+          ap (λ (j : ℕ). get_or new.slots.items (get_or new.pages.items j 0) 0) number
+          ∙ ap (λ (p : ℕ). get_or new.slots.items p 0) last
+          ∙ here
+          ∙ ap suc (sym number)
+    ];
+    bytes_size = omega (arith, ap length bytes_are, length-filled 0 (used * 4096) (o.bytes.items ++ src), length-append o.bytes.items src, src_size, sound.bytes_size, size, used_is, n_is);
+    flags_size = omega (arith, ap length flags_are, length-filled false (used * 4096) o.flags.items, sound.flags_size, size, used_is, n_is);
+    few = omega (arith, size, ap free slots_now, free_set o.slots.items page n reached is_free, ap length slots_now, length-set o.slots.items page (suc n), sound.few, n_is);
+    fits = omega (arith, ap length slots_now, length-set o.slots.items page (suc n), sound.fits, most_is);
+    small = omega (arith, sound.small, most_is);
+    slots_room = omega (arith, sound.slots_room, slots_room, most_is);
+    pages_room = omega (arith, sound.pages_room, pages_room, most_is);
+    bytes_room = omega (arith, sound.bytes_room, bytes_room, most_is);
+    flags_room = omega (arith, sound.flags_room, flags_room, most_is);
+  }
+
+-- the pool has room for a page that has a free slot
+room_free : (slots : List ℕ) (p : ℕ) → p < length slots → get_or slots p 0 ≡ 0 → 0 < free slots
+room_free slots p lt is = omega (arith, free_set slots p 0 lt is)
+
+pub room_page : (o : OldPages) (page : ℕ) → IsSound o → page < length o.slots.items → get_or o.slots.items page 0 ≡ 0 → length o.pages.items < o.most
+room_page o page sound reached is_free = omega (arith, sound.few, sound.fits, room_free o.slots.items page reached is_free)
+
+-- where a page lies in the pool
+module _ (o : OldPages) (page k : ℕ) (sound : IsSound o) (used : get_or o.slots.items page 0 ≡ suc k) where
+  number : k < length o.pages.items
+  number = (sound.back page k used).0
+
+  pub pool_bytes : k * 4096 + 4096 ≤ length o.bytes.items
+  pool_bytes = omega (arith, number, sound.bytes_size)
+
+  pub pool_flags : k * 4096 + 4096 ≤ length o.flags.items
+  pool_flags = omega (arith, number, sound.flags_size)
+
+  pub pool_small : k * 4096 + 4096 < 2 ^ 64
+  pool_small = omega (arith, number, sound.few, sound.fits, sound.small)

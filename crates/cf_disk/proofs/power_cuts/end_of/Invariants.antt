@@ -1,0 +1,5 @@
+use Rattle.std.proofs.Common.{ℕ, ◌<◌, get_or}
+use Rattle.cf_disk.proofs.power_cuts.end_of.Given as goal
+
+abbrev pub invariant-loop-page : goal.invariant-loop-page
+invariant-loop-page l = (k : ℕ) → k < l.page-index → get_or l.pages k 0 < l.end

@@ -1,0 +1,99 @@
+-- The pages of a disk in memory that were written since the last sync, as they were then.
+use Rattle.std.specs.Prelude.{◌≡◌, ◌⊎◌, ◌+◌, ◌*◌, ◌/◌, ◌%◌, ◌^◌, ◌<◌, ◌≤◌, ℕ, zero, suc, Bool, true, false, List, [], ◌∷◌, length, map, get_or, vec_capacity}
+use Rattle.std.specs.List.{range_with_len}
+use Rattle.cf_disk.specs.Fronts.{filled}
+use Rattle.cf_disk.specs.Images.{Held}
+use Rattle.cf_disk.specs.declared.old_pages.OldPages.{OldPages}
+
+-- The slot of a place's page: 0 where its bytes of the last sync are not kept, else one more than their number in the pool.
+abbrev pub slot_of : OldPages → ℕ → ℕ
+slot_of o i = get_or o.slots.items (i / 4096) 0
+
+-- what a pool has for a place of a page, by the page's slot; what is there now where it has none
+abbrev pub in_slot : {X : Type 0} → X → ℕ → List X → X → ℕ → X
+in_slot d zero pool now at = now
+in_slot d (suc k) pool now at = get_or pool (k * 4096 + at) d
+
+-- the byte of the last sync at a place, by the byte that is there now
+abbrev pub old_byte : OldPages → ℕ → ℕ → ℕ
+old_byte o now i = in_slot 0 (slot_of o i) o.bytes.items now (i % 4096)
+
+-- whether a place was written since
+abbrev pub is_written : OldPages → ℕ → Bool
+is_written o i = in_slot false (slot_of o i) o.flags.items false (i % 4096)
+
+-- the bytes of the last sync at n places
+abbrev pub old_bytes : ℕ → List ℕ → OldPages → List ℕ
+old_bytes n bytes o = map (λ i. old_byte o (get_or bytes i 0) i) (range_with_len 0 n)
+
+-- which of n places were written since
+abbrev pub written_places : ℕ → OldPages → List Bool
+written_places n o = map (is_written o) (range_with_len 0 n)
+
+-- the whole, of n bytes, by the bytes of its front
+abbrev pub held_by : ℕ → List ℕ → OldPages → Held
+held_by n bytes o = record { bytes = filled n 0 bytes; synced = old_bytes n bytes o; pending = written_places n o }
+
+-- how many slots are free
+abbrev pub free : List ℕ → ℕ
+free [] = 0
+free (zero ∷ slots) = suc (free slots)
+free (suc k ∷ slots) = free slots
+
+-- Slots and pages name each other, the pool has the pages one behind the other, and there is room for each page of the disk.
+pub record IsSound (o : OldPages) : Type 0 where
+  pub back : (p k : ℕ) → get_or o.slots.items p 0 ≡ suc k → (k < length o.pages.items) × (get_or o.pages.items k 0 ≡ p)
+  pub there : (k : ℕ) → k < length o.pages.items → get_or o.slots.items (get_or o.pages.items k 0) 0 ≡ suc k
+  pub bytes_size : length o.bytes.items ≡ length o.pages.items * 4096
+  pub flags_size : length o.flags.items ≡ length o.pages.items * 4096
+  pub few : length o.pages.items + free o.slots.items ≤ length o.slots.items
+  pub fits : length o.slots.items ≤ o.most
+  pub small : o.most * 4096 < 2 ^ 64
+  pub slots_room : o.most ≤ vec_capacity o.slots
+  pub pages_room : o.most ≤ vec_capacity o.pages
+  pub bytes_room : o.most * 4096 ≤ vec_capacity o.bytes
+  pub flags_room : o.most * 4096 ≤ vec_capacity o.flags
+
+-- no page is kept
+abbrev pub AreClean : OldPages → Type 0
+AreClean o = (p : ℕ) → get_or o.slots.items p 0 ≡ 0
+
+-- The pages from one up to another are kept as these bytes are now, where they were not kept already. Nothing is written by that.
+pub record KeepsPages (bytes : List ℕ) (low high : ℕ) (old new : OldPages) : Type 0 where
+  pub bytes_stay : (i : ℕ) → old_byte new (get_or bytes i 0) i ≡ old_byte old (get_or bytes i 0) i
+  pub flags_stay : (i : ℕ) → is_written new i ≡ is_written old i
+  pub kept : (p : ℕ) → low ≤ p → p < high → 0 < get_or new.slots.items p 0
+  pub stays : (p : ℕ) → 0 < get_or old.slots.items p 0 → 0 < get_or new.slots.items p 0
+  pub most : new.most ≡ old.most
+
+-- The places from one up to another are written. The bytes of the last sync stay.
+pub record Marks (from to : ℕ) (old new : OldPages) : Type 0 where
+  pub slots : new.slots.items ≡ old.slots.items
+  pub bytes : new.bytes.items ≡ old.bytes.items
+  pub set : (i : ℕ) → from ≤ i → i < to → is_written new i ≡ true
+  pub stays : (i : ℕ) → (i < from) ⊎ (to ≤ i) → is_written new i ≡ is_written old i
+  pub most : new.most ≡ old.most
+
+-- nothing is written from a place on
+abbrev pub IsQuiet : ℕ → OldPages → Type 0
+IsQuiet n o = (i : ℕ) → n ≤ i → is_written o i ≡ false
+
+-- So a disk in memory of n bytes keeps its front, in room for the whole.
+pub record IsMedium (n room : ℕ) (bytes : List ℕ) (o : OldPages) : Type 0 where
+  pub sound : IsSound o
+  pub fits : length bytes ≤ n
+  pub inside : n < o.most * 4096
+  pub room_is : n ≤ room
+  -- a byte that was not written is the one of the last sync
+  pub same : (i : ℕ) → is_written o i ≡ false → get_or bytes i 0 ≡ old_byte o (get_or bytes i 0) i
+  pub quiet : IsQuiet (length bytes) o
+
+-- The synced bytes of the page with a number in the pool are put over the others.
+pub record PutsPage (o : OldPages) (number : ℕ) (old new : List ℕ) : Type 0 where
+  pub here : (i : ℕ) → i < length old → slot_of o i ≡ suc number → get_or new i 0 ≡ get_or o.bytes.items (number * 4096 + i % 4096) 0
+  pub others : (i : ℕ) → (slot_of o i ≡ suc number → ⊥) → get_or new i 0 ≡ get_or old i 0
+
+-- those of the first n pages of the pool
+pub record PutsPages (o : OldPages) (n : ℕ) (old new : List ℕ) : Type 0 where
+  pub here : (i : ℕ) → i < length old → slot_of o i ≤ n → get_or new i 0 ≡ old_byte o (get_or old i 0) i
+  pub others : (i : ℕ) → n < slot_of o i → get_or new i 0 ≡ get_or old i 0

@@ -1,0 +1,200 @@
+//! The pages of a disk in memory that were written since the last sync, as they were then.
+
+ghost use Rattle.std.specs.Prelude.{◌≡◌, ◌⊎◌, ◌≤◌, ◌<◌, ◌+◌, ◌*◌, ◌/◌, ℕ, length, get_or, set, IfOk, vec_capacity};
+ghost use Rattle.std.specs.Int.{div_ceil};
+ghost use Rattle.cf_disk.specs.Fronts.{filled};
+ghost use Rattle.cf_disk.specs.Keeping.{AreClean, IsSound, KeepsPages, Marks};
+
+use crate::patches::{append, fill_up, fill_up_flags, fill_up_slots, mark_vec};
+use cf_base::OutOfMemory;
+use std::alloc::Global;
+
+/// The bytes of a page.
+pub(crate) const PAGE: usize = 4096;
+
+/// The bytes that pages had at the last sync, and a flag for each byte of them that was written since. They lie in a pool,
+/// one page behind the other in the order in which they were first written. So they touch no more memory than the most
+/// that was ever pending at once. Room for all pages of the disk is taken at the start.
+#[derive(Drop)]
+pub(crate) struct OldPages {
+    // For each page of the front of the disk 0, or one more than its number in the pool.
+    pub(crate) slots: Vec<usize>,
+    // The pages of the pool.
+    pub(crate) pages: Vec<usize>,
+    pub(crate) bytes: Vec<u8>,
+    pub(crate) flags: Vec<bool>,
+    // How many pages the disk has at most.
+    most: usize,
+}
+
+/// The number at a place, which is 0 behind the last.
+pub(crate) fn number_at(numbers: &[usize], place: usize) -> usize
+    ensures { result ≡ get_or numbers.now place 0 }
+{
+    match numbers.get(place) {
+        Some(number) => *number,
+        None => 0,
+    }
+}
+
+fn set_slot(slots: &mut [usize], page: usize, slot: usize)
+    requires { page < length slots.old }
+    ensures { slots.new ≡ set slots.old page slot }
+{
+    slots[page] = slot;
+}
+
+// Frees the slots of some pages.
+fn free_slots(slots: &mut [usize], pages: &[usize])
+    requires { (k : ℕ) → k < length pages.now → get_or pages.now k 0 < length slots.old }
+    ensures freed { (k : ℕ) → k < length pages.now → get_or slots.new (get_or pages.now k 0) 0 ≡ 0 }
+    ensures others { (p : ℕ) → (get_or slots.new p 0 ≡ 0) ⊎ (get_or slots.new p 0 ≡ get_or slots.old p 0) }
+{
+    for page in pages {
+        slots[*page] = 0;
+    }
+}
+
+// The same of vectors.
+fn set_slot_vec(slots: &mut Vec<usize>, page: usize, slot: usize)
+    requires { page < length slots.old.items }
+    ensures items { slots.new.items ≡ set slots.old.items page slot }
+    ensures capacity { vec_capacity slots.new ≡ vec_capacity slots.old }
+{
+    set_slot(slots, page, slot);
+}
+
+fn free_slots_vec(slots: &mut Vec<usize>, pages: &Vec<usize>)
+    requires { (k : ℕ) → k < length pages.now.items → get_or pages.now.items k 0 < length slots.old.items }
+    ensures freed { (k : ℕ) → k < length pages.now.items → get_or slots.new.items (get_or pages.now.items k 0) 0 ≡ 0 }
+    ensures others { (p : ℕ) → (get_or slots.new.items p 0 ≡ 0) ⊎ (get_or slots.new.items p 0 ≡ get_or slots.old.items p 0) }
+    ensures size { length slots.new.items ≡ length slots.old.items }
+    ensures capacity { vec_capacity slots.new ≡ vec_capacity slots.old }
+{
+    free_slots(slots, pages);
+}
+
+impl OldPages {
+    /// No page is kept. OutOfMemory also where the pages have no number of bytes that a machine knows.
+    pub(crate) fn new(alloc: Global, size: usize) -> Result<OldPages, OutOfMemory>
+        ensures sound { IfOk result IsSound }
+        ensures clean { IfOk result AreClean }
+        ensures inside { IfOk result (λ o. size < o.most * 4096) }
+    {
+        let most = size / PAGE + 1;
+        let Some(room) = most.checked_mul(PAGE) else {
+            return Err(OutOfMemory);
+        };
+        Ok(OldPages {
+            slots: Vec::with_capacity(alloc, most)?,
+            pages: Vec::with_capacity(alloc, most)?,
+            bytes: Vec::with_capacity(alloc, room)?,
+            flags: Vec::with_capacity(alloc, room)?,
+            most,
+        })
+    }
+
+    // Keeps a page that has a free slot.
+    fn add(&mut self, bytes: &[u8], page: usize)
+        requires sound { IsSound self.old }
+        requires reached { page < length self.old.slots.items }
+        requires is_free { get_or self.old.slots.items page 0 ≡ 0 }
+        requires front { page * 4096 ≤ length bytes.now }
+        ensures sound { IsSound self.new }
+        ensures keeps { KeepsPages bytes.now page (page + 1) self.old self.new }
+    {
+        let low = page * PAGE;
+        let high = (low + PAGE).min(bytes.len());
+        self.pages.push_reserved(page);
+        let slot = self.pages.len();
+        append(&mut self.bytes, &bytes[low..high]);
+        fill_up(&mut self.bytes, slot * PAGE);
+        fill_up_flags(&mut self.flags, slot * PAGE);
+        set_slot_vec(&mut self.slots, page, slot);
+    }
+
+    // Has slots for so many pages.
+    fn reach(&mut self, pages: usize)
+        requires sound { IsSound self.old }
+        requires most { pages ≤ self.old.most }
+        ensures sound { IsSound self.new }
+        ensures slots { self.new.slots.items ≡ filled pages 0 self.old.slots.items }
+        ensures others { (self.new.pages.items ≡ self.old.pages.items) × (self.new.bytes.items ≡ self.old.bytes.items) × (self.new.flags.items ≡ self.old.flags.items) × (self.new.most ≡ self.old.most) }
+    {
+        fill_up_slots(&mut self.slots, pages);
+    }
+
+    // Keeps a page, unless it is kept.
+    fn keep_page(&mut self, bytes: &[u8], page: usize)
+        requires sound { IsSound self.old }
+        requires most { page < self.old.most }
+        requires front { page * 4096 ≤ length bytes.now }
+        ensures sound { IsSound self.new }
+        ensures keeps { KeepsPages bytes.now page (page + 1) self.old self.new }
+    {
+        self.reach(page + 1);
+        if number_at(&self.slots, page) == 0 {
+            self.add(bytes, page);
+        }
+    }
+
+    /// Keeps each page with a place from one up to another as its bytes are now, unless it is kept.
+    pub(crate) fn keep(&mut self, bytes: &[u8], at: usize, end: usize)
+        requires sound { IsSound self.old }
+        requires front { end ≤ length bytes.now }
+        requires inside { end < self.old.most * 4096 }
+        ensures sound { IsSound self.new }
+        ensures keeps { KeepsPages bytes.now (at / 4096) (div_ceil end 4096) self.old self.new }
+    {
+        for page in at / PAGE..end.div_ceil(PAGE) {
+            self.keep_page(bytes, page);
+        }
+    }
+
+    // Marks places of a page that is kept.
+    fn mark_page(&mut self, page: usize, from: usize, to: usize)
+        requires sound { IsSound self.old }
+        requires kept { 0 < get_or self.old.slots.items page 0 }
+        requires low { page * 4096 ≤ from }
+        requires order { from ≤ to }
+        requires high { to ≤ page * 4096 + 4096 }
+        ensures sound { IsSound self.new }
+        ensures marks { Marks from to self.old self.new }
+    {
+        let start = (number_at(&self.slots, page) - 1) * PAGE;
+        mark_vec(
+            &mut self.flags,
+            start + (from - page * PAGE),
+            to - from,
+            true,
+        );
+    }
+
+    /// Marks the places from one up to another as written. Their pages are kept.
+    pub(crate) fn mark(&mut self, at: usize, end: usize)
+        requires sound { IsSound self.old }
+        requires order { at ≤ end }
+        requires inside { end < self.old.most * 4096 }
+        requires kept { (p : ℕ) → at / 4096 ≤ p → p < div_ceil end 4096 → 0 < get_or self.old.slots.items p 0 }
+        ensures sound { IsSound self.new }
+        ensures marks { Marks at end self.old self.new }
+    {
+        for page in at / PAGE..end.div_ceil(PAGE) {
+            let low = page * PAGE;
+            self.mark_page(page, at.max(low), end.min(low + PAGE));
+        }
+    }
+
+    /// Keeps no page.
+    pub(crate) fn clear(&mut self)
+        requires { IsSound self.old }
+        ensures sound { IsSound self.new }
+        ensures clean { AreClean self.new }
+        ensures most { self.new.most ≡ self.old.most }
+    {
+        free_slots_vec(&mut self.slots, &self.pages);
+        self.pages.clear();
+        self.bytes.clear();
+        self.flags.clear();
+    }
+}
