@@ -31,7 +31,7 @@ use Rattle.cf_filter_events.specs.Counted.{Counts, CountsTo, meets_device}
 use Rattle.cf_filter_events.specs.Meaning.{IsOn, OnBy}
 use Rattle.cf_filter_events.specs.Stepped.{Steps}
 use Rattle.cf_filter_events.specs.declared.places.RunningOn.{RunningOn as Run}
-use Rattle.cf_filter_machine.specs.Held.{Desk}
+use Rattle.cf_filter_desk.specs.Desks.{Desk}
 use Rattle.cf_model.proofs.TraceLaws.{ended_step}
 use Rattle.cf_model.specs.Arrows as arrows
 use Rattle.cf_model.specs.Events.{begun, tree_of}

@@ -14,7 +14,8 @@ use Rattle.cf_engine.specs.Actors.{Answers, Syncing}
 use Rattle.cf_engine.specs.Playing.{is_actor}
 use Rattle.cf_filter_events.proofs.Wholes.{on_holds}
 use Rattle.cf_filter_events.specs.Meaning.{OnBy}
-use Rattle.cf_filter_machine.specs.Held.{Desk, Held}
+use Rattle.cf_filter_desk.specs.Desks.{Desk}
+use Rattle.cf_filter_machine.specs.Held.{Held}
 use Rattle.cf_filter_machine.specs.Sensing as sensing
 use Rattle.cf_model.specs.State.{On, State, first_policy, new_filter, new_volume, start}
 use Rattle.cf_model.specs.Store.{empty_remote}

@@ -10,7 +10,8 @@ use Rattle.cf_filter_events.proofs.Wholes.{on_hands, on_holds}
 use Rattle.cf_filter_events.specs.Meaning.{OnBy}
 use Rattle.cf_filter_events.specs.Pasts.{Past, StandsFor}
 use Rattle.cf_filter_events.specs.declared.places.RunningOn.{RunningOn as Run}
-use Rattle.cf_filter_machine.specs.Held.{Desk, Held}
+use Rattle.cf_filter_desk.specs.Desks.{Desk}
+use Rattle.cf_filter_machine.specs.Held.{Held}
 use Rattle.cf_filter_machine.specs.Sensing as sensing
 use Rattle.cf_journal.specs.Settled.{IsFitSize}
 use Rattle.cf_link.specs.Linked.{IsLink, Linked}

@@ -2,7 +2,8 @@
 use Rattle.std.proofs.Common.{◌≡◌, inl, sym, ◌∙◌, ap, subst, arith}
 use Rattle.cf_filter_machine.proofs.Aims.{aims_on}
 use Rattle.cf_disk.specs.Disk.{IsUnchanged, Keeps, Leaves, State}
-use Rattle.cf_filter_machine.specs.Held.{Desk, Held}
+use Rattle.cf_filter_desk.specs.Desks.{Desk}
+use Rattle.cf_filter_machine.specs.Held.{Held}
 use Rattle.cf_filter_machine.specs.Sensing.{Stands, Stopped}
 use Rattle.cf_filter_machine.specs.Showing.{Shows}
 use Rattle.cf_model.specs.State.{Filter}

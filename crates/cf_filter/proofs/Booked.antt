@@ -10,7 +10,8 @@ use Rattle.cf_filter.specs.Booking.{anchored_at}
 use Rattle.cf_filter_machine.proofs.BookSteps.{book_moved}
 use Rattle.cf_filter_machine.proofs.RemoveSteps.{row_there}
 use Rattle.cf_filter_machine.proofs.RisingBooks.{anchors_with}
-use Rattle.cf_filter_machine.specs.Held.{Desk, Held}
+use Rattle.cf_filter_desk.specs.Desks.{Desk}
+use Rattle.cf_filter_machine.specs.Held.{Held}
 use Rattle.cf_filter_machine.specs.Keeping.{IsKeptVolume}
 use Rattle.cf_filter_machine.specs.Lasts.{lasts_at}
 use Rattle.cf_filter_machine.specs.Sensing.{Stands, sense}

@@ -10,7 +10,8 @@ use Rattle.cf_base.specs.declared.codes.CallError.TheVariants.{No, OutOfMemory}
 use Rattle.cf_base.specs.declared.notices.Notice.{Notice}
 use Rattle.cf_disk.specs.Disk.{State}
 use Rattle.cf_filter.specs.Calling.{Asks, Calls, Takes, Told, answer_of, broken_by, is_stopped, noted, shown_by}
-use Rattle.cf_filter_machine.specs.Held.{Desk, Held}
+use Rattle.cf_filter_desk.specs.Desks.{Desk}
+use Rattle.cf_filter_machine.specs.Held.{Held}
 use Rattle.cf_filter_machine.specs.Lasting.{Lasts}
 use Rattle.cf_filter_machine.specs.Sensing.{sense}
 use Rattle.cf_model.specs.Arrows.{Arrow}

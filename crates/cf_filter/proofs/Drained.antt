@@ -18,7 +18,8 @@ use Rattle.cf_filter_machine.proofs.Seen.{seen_gone, seen_there}
 use Rattle.cf_engine_host.specs.Callbacks.{Answering, AnswersOn, CutOff, NoneFailed}
 use Rattle.cf_engine_host.specs.Draining.{DrainedTo, DrainsBy}
 use Rattle.cf_filter.specs.Draining.{CallsTo, Drains, DrainsTo, PartTo, TurnTo, Turns}
-use Rattle.cf_filter_machine.specs.Held.{Desk, Held}
+use Rattle.cf_filter_desk.specs.Desks.{Desk}
+use Rattle.cf_filter_machine.specs.Held.{Held}
 use Rattle.cf_filter_machine.specs.Lasting.{Moved}
 use Rattle.cf_filter.specs.PortLaws.{false_true, gone_lasts}
 use Rattle.cf_filter.specs.Porting.{Goes, GoneTo, sight_of}

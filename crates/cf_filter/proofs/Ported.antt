@@ -19,7 +19,8 @@ use Rattle.cf_filter.proofs.Called.{lasts_after}
 use Rattle.cf_filter_machine.proofs.DeskSteps.{stands_with}
 use Rattle.cf_filter_machine.proofs.GoodSteps.{same_good}
 use Rattle.cf_filter.specs.Calling.{Takes, Told, stopped_by}
-use Rattle.cf_filter_machine.specs.Held.{Desk, Held}
+use Rattle.cf_filter_desk.specs.Desks.{Desk}
+use Rattle.cf_filter_machine.specs.Held.{Held}
 use Rattle.cf_filter.specs.PortLaws.{false_true, goes_nowhere}
 use Rattle.cf_filter.specs.Porting.{Goes, GoneTo}
 use Rattle.cf_filter_machine.specs.Sensing.{sense}

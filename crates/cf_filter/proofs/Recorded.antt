@@ -22,7 +22,8 @@ use Rattle.cf_filter.specs.Recording.{Attempts, HasRoom, PutsRecord, aux_outcome
 use Rattle.cf_filter_machine.proofs.BookSteps.{book_lost, book_moved}
 use Rattle.cf_filter_machine.proofs.DeskSteps.{on_disk}
 use Rattle.cf_filter_machine.specs.Entering.{held}
-use Rattle.cf_filter_machine.specs.Held.{Desk, Held}
+use Rattle.cf_filter_desk.specs.Desks.{Desk}
+use Rattle.cf_filter_machine.specs.Held.{Held}
 use Rattle.cf_filter_machine.specs.Keeping.{IsKeptVolume, IsRisingBy}
 use Rattle.cf_filter_machine.specs.Lasting.{Moved}
 use Rattle.cf_filter_machine.proofs.Rebooked.{rebooked}

@@ -2,7 +2,8 @@
 use Rattle.std.proofs.Common.{◌≡◌, ◌≤◌, Bool, true, false, List, [], ◌∷◌, ◌++◌, refl, sym, ◌∙◌, ap, subst, append-nil, append_assoc}
 use Rattle.cf_base.specs.declared.notices.Notice.{Notice}
 use Rattle.cf_disk.specs.Disk.{State}
-use Rattle.cf_filter_machine.specs.Held.{Desk, Held}
+use Rattle.cf_filter_desk.specs.Desks.{Desk}
+use Rattle.cf_filter_machine.specs.Held.{Held}
 use Rattle.cf_filter_machine.specs.Lasting.{Lasts, Moved}
 use Rattle.cf_engine_host.specs.Callbacks.{NoneFailed}
 use Rattle.cf_filter.specs.Porting.{Goes, GoneTo, StaysBroken, notes_of}

@@ -26,7 +26,8 @@ use Rattle.cf_base.specs.declared.policies.Class.{Class}
 use Rattle.cf_disk.specs.Disk.{State as Disk}
 use Rattle.cf_engine_host.specs.Callbacks.{Answering}
 use Rattle.cf_filter.specs.Calling.{Asks, Calls, Told, answer_of, is_stopped, noted, shown_by}
-use Rattle.cf_filter_machine.specs.Held.{Desk, Held}
+use Rattle.cf_filter_desk.specs.Desks.{Desk}
+use Rattle.cf_filter_machine.specs.Held.{Held}
 use Rattle.cf_filter_machine.specs.Sensing.{sense}
 use Rattle.cf_model.proofs.TreeLaws.{kept_at_end, kept_at_stop}
 use Rattle.cf_model.specs.Arrows.{Arrow, Preserves, choose, ret}

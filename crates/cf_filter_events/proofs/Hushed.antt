@@ -8,7 +8,8 @@ use Rattle.cf_base.specs.declared.notices.Notice.{Notice}
 use Rattle.cf_disk.specs.Disk.{State as Disk, size_of}
 use Rattle.cf_filter.specs.Calling.{noted}
 use Rattle.cf_journal.specs.Settled.{IsFitSize}
-use Rattle.cf_filter_machine.specs.Held.{Desk, Held}
+use Rattle.cf_filter_desk.specs.Desks.{Desk}
+use Rattle.cf_filter_machine.specs.Held.{Held}
 use Rattle.cf_filter_machine.specs.Lasting.{Lasts, Moved}
 use Rattle.cf_filter_machine.specs.Sensing.{Stands, Stopped}
 use Rattle.cf_filter_machine.specs.Showing.{Shows}

@@ -20,7 +20,8 @@ use Rattle.cf_base.specs.declared.policies.Choice.{Choice}
 use Rattle.cf_engine_host.specs.Callbacks.{Answering}
 use Rattle.cf_disk.specs.Disk.{AddsPower, IsUnchanged, Only, Powers, State as Disk, size_of}
 use Rattle.cf_journal.specs.Settled.{IsFitSize}
-use Rattle.cf_filter_machine.specs.Held.{Desk, Held}
+use Rattle.cf_filter_desk.specs.Desks.{Desk}
+use Rattle.cf_filter_machine.specs.Held.{Held}
 use Rattle.cf_filter_machine.specs.Lasting.{IsOfPoint, Lasts}
 use Rattle.cf_filter_machine.specs.Sensing.{Stands, sense}
 use Rattle.cf_filter_machine.specs.Showing.{Shows}

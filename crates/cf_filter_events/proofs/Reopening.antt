@@ -33,7 +33,8 @@ use Rattle.cf_volume_commit.specs.Loaded.{StandsOrWas}
 use Rattle.cf_engine_host.specs.Callbacks.{Answering}
 use Rattle.cf_disk.specs.Disk.{Leaves, State as Disk}
 use Rattle.cf_journal.specs.Steps.{ReadsOnly}
-use Rattle.cf_filter_machine.specs.Held.{Desk, Held}
+use Rattle.cf_filter_desk.specs.Desks.{Desk}
+use Rattle.cf_filter_machine.specs.Held.{Held}
 use Rattle.cf_filter_machine.specs.Keeping.{IsKeptVolume}
 use Rattle.cf_filter_machine.specs.Sensing.{Stands}
 use Rattle.cf_model.proofs.TraceLaws.{ended_step, stopped_step}

@@ -18,9 +18,9 @@ use Rattle.cf_filter_machine.proofs.DeskSteps.{stands_with}
 use Rattle.cf_filter_machine.proofs.GoodSteps.{same_good}
 use Rattle.cf_filter_machine.proofs.HeldParts.{read_at, read_in}
 use Rattle.cf_filter_machine.proofs.Seen.{seen_there}
-use Rattle.cf_filter_machine.specs.Desks.{ended}
+use Rattle.cf_filter_desk.specs.Desks.{Desk, desk_of, ended}
 use Rattle.cf_filter_machine.specs.Ends.{IsCutHere, cut_at}
-use Rattle.cf_filter_machine.specs.Held.{Desk, Held, desk_of}
+use Rattle.cf_filter_machine.specs.Held.{Held}
 use Rattle.cf_filter_machine.specs.Keeping.{IsKeptVolume}
 use Rattle.cf_filter_machine.specs.Lasting.{Moved}
 use Rattle.cf_filter_machine.specs.Lasts.{stays_put}

@@ -13,7 +13,8 @@ use Rattle.cf_disk.specs.Disk.{State}
 use Rattle.cf_engine_queue.proofs.StaysKeepable.{access_kept, ticks_kept}
 use Rattle.cf_filter_machine.proofs.Rebooked.{rebooked}
 use Rattle.cf_filter_machine.proofs.RisingBooks.{accesses_with}
-use Rattle.cf_filter_machine.specs.Held.{Desk, Held, desk_of}
+use Rattle.cf_filter_desk.specs.Desks.{Desk, desk_of}
+use Rattle.cf_filter_machine.specs.Held.{Held}
 use Rattle.cf_filter_machine.specs.Keeping.{HasKeptPoints, IsKeptVolume}
 use Rattle.cf_filter_machine.specs.Lasting.{Grows, Lasts, Moved}
 use Rattle.cf_filter_machine.specs.Lasts.{grows_not, lasts_at, stays_put}

@@ -21,7 +21,8 @@ use Rattle.cf_filter_machine.proofs.Keepable.{keepable}
 use Rattle.cf_filter_machine.proofs.PointSteps.{either_begun, grows_begun, last_point, now_kept, same_parts}
 use Rattle.cf_filter_machine.proofs.Shown.{shows_begun, stays_shown}
 use Rattle.cf_filter_machine.proofs.StillFiles.{still_file, still_opened, still_reads}
-use Rattle.cf_filter_machine.specs.Held.{Desk, Held, desk_of}
+use Rattle.cf_filter_desk.specs.Desks.{Desk, desk_of}
+use Rattle.cf_filter_machine.specs.Held.{Held}
 use Rattle.cf_filter_machine.specs.Keeping.{HasKeptPoints, IsKeptPoint, IsKeptVolume}
 use Rattle.cf_filter_machine.specs.Lasting.{Grows, IsBetween, Lasts, Moved}
 use Rattle.cf_filter_machine.specs.Lasts.{grows_not, lasts_at}

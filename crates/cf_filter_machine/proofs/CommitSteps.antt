@@ -11,7 +11,8 @@ use Rattle.cf_disk.specs.Leaving.{leaves_weaker}
 use Rattle.cf_filter_machine.proofs.Keepable.{keepable}
 use Rattle.cf_filter_machine.proofs.Shown.{shows_begun, stays_shown}
 use Rattle.cf_filter_machine.proofs.PointSteps.{either_begun, either_between, grows_begun, grows_sure, sure_kept, sure_points}
-use Rattle.cf_filter_machine.specs.Held.{Desk, Held}
+use Rattle.cf_filter_desk.specs.Desks.{Desk}
+use Rattle.cf_filter_machine.specs.Held.{Held}
 use Rattle.cf_filter_machine.specs.Lasting.{IsBetween, Lasts}
 use Rattle.cf_filter_machine.specs.Lasts.{grows_not}
 use Rattle.cf_filter_machine.specs.Sensing.{Stands, sense}

@@ -7,7 +7,8 @@ use Rattle.cf_volume_room.specs.Aims.{IsAimedBy}
 use Rattle.cf_base.specs.declared.codes.CallError.{CallError}
 use Rattle.cf_base.specs.declared.codes.CallError.TheVariants.{OutOfMemory}
 use Rattle.cf_disk.specs.Disk.{Leaves, State}
-use Rattle.cf_filter_machine.specs.Held.{Desk, Held, desk_of}
+use Rattle.cf_filter_desk.specs.Desks.{Desk, desk_of}
+use Rattle.cf_filter_machine.specs.Held.{Held}
 use Rattle.cf_filter_machine.specs.Keeping.{HasKeptPoints, IsKeptVolume}
 use Rattle.cf_filter_machine.specs.Lasting.{Moved}
 use Rattle.cf_filter_machine.specs.Lasts.{lasts_at, stays_put}

@@ -23,7 +23,8 @@ use Rattle.cf_filter_machine.proofs.PointSteps.{last_point}
 use Rattle.cf_filter_machine.proofs.Shown.{shows_at, shows_on}
 use Rattle.cf_filter_machine.proofs.StillFiles.{in_place, still_opened, still_reads, with_more}
 use Rattle.cf_filter_machine.specs.Entering.{AfterEntry, Coming, EndsBy, Enters, GoesOn, IsReadyEntry, MayEnter, is_listed}
-use Rattle.cf_filter_machine.specs.Held.{Desk, Held, desk_of}
+use Rattle.cf_filter_desk.specs.Desks.{Desk, desk_of}
+use Rattle.cf_filter_machine.specs.Held.{Held}
 use Rattle.cf_filter_machine.specs.Keeping.{HasKeptPoints, IsKeptVolume}
 use Rattle.cf_filter_machine.specs.Lasting.{IsBetween, Lasts, Moved}
 use Rattle.cf_filter_machine.specs.Lasts.{grows_not, lasts_at, moved_on, no_move}

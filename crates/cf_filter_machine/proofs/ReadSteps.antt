@@ -12,7 +12,8 @@ use Rattle.cf_disk.specs.Leaving.{leaves_weaker}
 use Rattle.cf_filter_machine.proofs.BookSteps.{IsRebooked, grows_book}
 use Rattle.cf_filter_machine.proofs.PointSteps.{last_point}
 use Rattle.cf_filter_machine.proofs.Shown.{stays_same, stays_shown}
-use Rattle.cf_filter_machine.specs.Held.{Desk, Held, desk_of}
+use Rattle.cf_filter_desk.specs.Desks.{Desk, desk_of}
+use Rattle.cf_filter_machine.specs.Held.{Held}
 use Rattle.cf_filter_machine.specs.Keeping.{HasKeptPoints, IsKeptVolume}
 use Rattle.cf_filter_machine.specs.Lasting.{IsBetween, Lasts, Moved}
 use Rattle.cf_filter_machine.specs.Lasts.{grows_not, stays_put}

@@ -17,7 +17,8 @@ use Rattle.cf_filter_machine.proofs.PointSteps.{last_point}
 use Rattle.cf_filter_machine.proofs.Shown.{stays_shown}
 use Rattle.cf_filter_machine.proofs.RemovedItems.{IsBeside, kept_without, opened_without, reads_without}
 use Rattle.cf_engine_queue.specs.Records.{IsKeepable}
-use Rattle.cf_filter_machine.specs.Held.{Desk, Held, desk_of}
+use Rattle.cf_filter_desk.specs.Desks.{Desk, desk_of}
+use Rattle.cf_filter_machine.specs.Held.{Held}
 use Rattle.cf_filter_machine.specs.Keeping.{IsKeptVolume}
 use Rattle.cf_filter_machine.specs.Graves.{gone}
 use Rattle.cf_filter_machine.specs.Lasting.{Grows, IsBetween, Moved}

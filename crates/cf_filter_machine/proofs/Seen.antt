@@ -4,7 +4,8 @@ use Rattle.std.specs.Prelude.{◌==◌}
 use Rattle.cf_base.specs.declared.ids.ItemId.{ItemId}
 use Rattle.cf_base.specs.declared.policies.Policy.{Policy}
 use Rattle.cf_disk.specs.Disk.{State}
-use Rattle.cf_filter_machine.specs.Held.{Desk, Held}
+use Rattle.cf_filter_desk.specs.Desks.{Desk}
+use Rattle.cf_filter_machine.specs.Held.{Held}
 use Rattle.cf_filter_machine.specs.Sensing.{Stands, sense}
 use Rattle.cf_model.specs.Items.{Item, item_of}
 use Rattle.cf_model.specs.Missing.{is_met, view_of}

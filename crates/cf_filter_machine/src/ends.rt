@@ -3,7 +3,7 @@
 ghost use Rattle.std.specs.Prelude.{◌≡◌, ◌≤◌, ◌+◌, ◌^◌, false, List, Some, IfErr, IfOk, OnOk, map, option_copied, slice_range};
 ghost use Rattle.cf_base.specs.declared.waits.Cause.TheVariants as cause;
 ghost use Rattle.cf_disk.specs.Disk.{Leaves};
-ghost use Rattle.cf_filter_machine.specs.Desks.{ended};
+ghost use Rattle.cf_filter_desk.specs.Desks.{ended};
 ghost use Rattle.cf_filter_machine.specs.Ends.{IsCutHere, cut_at};
 ghost use Rattle.cf_filter_machine.specs.Showing.{StaysBy};
 ghost use Rattle.cf_model.specs.Numbers.{same_key};
@@ -17,10 +17,10 @@ ghost use Rattle.cf_table.specs.Tables.{MeansAll, row_of};
 ghost use Rattle.cf_tree.specs.Trees.{RiseFrom};
 ghost use Rattle.cf_volume.specs.Calls.{IsCause, IsHere, Runs, StopsOnly};
 
-use crate::desks::Desk;
 use crate::entries::entries_of;
 use cf_ask_rule::Wait;
 use cf_base::{Blob, CallError, Cause, End, ItemId, OutOfMemory, Span, WaitKind};
+use cf_filter_desk::Desk;
 use cf_table::{Row, Rows};
 use cf_volume::VolumeOn;
 use cf_volume_ground::Ground;

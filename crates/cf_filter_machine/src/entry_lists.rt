@@ -17,9 +17,9 @@ ghost use Rattle.cf_volume_points.specs.At.{At, StandsLast};
 ghost use Rattle.cf_volume.specs.Calls.{HasRecords, IsCause, Runs, StopsOnly};
 ghost use Rattle.cf_volume.specs.Written.{contents_in};
 
-use crate::desks::Desk;
 use crate::limits::fits;
 use cf_base::{AuxRecord, CallError, Change, Notice, OutOfMemory, Usn};
+use cf_filter_desk::Desk;
 use cf_volume::{VolumeOn, are_short};
 use cf_volume_ground::Ground;
 

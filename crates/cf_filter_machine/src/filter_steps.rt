@@ -6,7 +6,6 @@ use crate::ends::{cut_here, end_met, is_access, read_here, tell_unread};
 use crate::entry_lists::enter_all;
 use crate::limits::fits;
 use crate::machines::MachineOn;
-use crate::missing_bytes::{is_met_gone, is_met_on};
 use crate::removals::remove_item;
 use crate::rows::last_of;
 use cf_ask_rule::Wait;
@@ -14,6 +13,7 @@ use cf_base::{
     Ask, AuxRecord, Blob, CallError, Cause, Change, Code, End, Handle, ItemId, Key, Notice,
     OutOfMemory, Policy, Span, Usn, WaitId,
 };
+use cf_filter_desk::{is_met_gone, is_met_on};
 use cf_filter_steps::{Need, Room, Steps};
 use cf_table::Rows;
 use cf_volume::are_short;

@@ -5,19 +5,15 @@
 //! step (`Rose`, there). Calls are the business of the crates above: a `Machine` alone promises its steps.
 #![tactic(auto)]
 
-mod desks;
 mod ends;
 mod entries;
 mod entry_lists;
 mod filter_steps;
 mod limits;
 mod machines;
-mod missing_bytes;
-mod open_files;
 mod removals;
 mod rows;
 mod tombstones;
 
-pub use desks::Desk;
+pub use cf_filter_desk::Desk;
 pub use machines::{Machine, MachineOn};
-pub use open_files::Open;

@@ -1,6 +1,6 @@
 //! A volume, and what stands in memory beside it.
 
-use crate::desks::Desk;
+use cf_filter_desk::Desk;
 use cf_volume::VolumeOn;
 use cf_volume_ground::{DiskGround, Ground};
 use std::marker::Model;

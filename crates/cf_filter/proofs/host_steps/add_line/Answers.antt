@@ -2,7 +2,7 @@ use Rattle.std.proofs.Common.{refl, [], ◌∷◌}
 use Rattle.std.specs.Prelude.{◌++◌}
 use Rattle.cf_filter_machine.proofs.DeskSteps.{desk_exit, desk_stepped}
 use Rattle.cf_filter_machine.proofs.GoodSteps.{same_good}
-use Rattle.cf_filter_machine.specs.Held.{Desk}
+use Rattle.cf_filter_desk.specs.Desks.{Desk}
 use Rattle.cf_filter_steps.specs.Answering.{Any}
 use Rattle.cf_model.specs.Arrows.{noted}
 use Rattle.cf_model.specs.State.{with_notes}

@@ -2,7 +2,7 @@ use Rattle.std.proofs.Common.{◌∙◌, ap}
 use Rattle.cf_base.specs.declared.ids.WaitId.{WaitId}
 use Rattle.cf_base.specs.declared.waits.End.{End}
 use Rattle.cf_filter_machine.proofs.AnswerSteps.{on_ok_map}
-use Rattle.cf_filter_machine.specs.Desks.{ended}
+use Rattle.cf_filter_desk.specs.Desks.{ended}
 use Rattle.cf_model.specs.Numbers.{same_key}
 use Rattle.cf_model.specs.Settling.{end_of}
 use Rattle.cf_model.specs.Words.{says}

@@ -5,7 +5,7 @@ use Rattle.cf_base.specs.declared.notices.Notice.TheVariants as notice
 use Rattle.cf_filter_machine.proofs.EnterSteps.{entered_last, enters_err, enters_lost, entry_lost, entry_stopped, listed, last_put, plain}
 use Rattle.cf_filter_machine.proofs.DeskSteps.{on_disk}
 use Rattle.cf_filter_machine.specs.Entering.{Enters, MayEnter, held}
-use Rattle.cf_filter_machine.specs.Held.{Desk}
+use Rattle.cf_filter_desk.specs.Desks.{Desk}
 use Rattle.cf_filter_machine.specs.Sensing.{Stands}
 use Rattle.cf_model.specs.Changes.{change_with, put_change, put_with_book}
 use Rattle.cf_model.specs.Arrows.{unit}

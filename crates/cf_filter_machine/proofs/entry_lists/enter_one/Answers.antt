@@ -3,7 +3,7 @@ use Rattle.cf_base.specs.declared.codes.CallError.TheVariants.{OutOfMemory}
 use Rattle.cf_base.specs.declared.notices.Notice.TheVariants as notice
 use Rattle.cf_filter_machine.proofs.EnterSteps.{entered_one, enters_err, enters_lost, entry_lost, entry_stopped, listed, plain}
 use Rattle.cf_filter_machine.specs.Entering.{Coming, IsReadyEntry, held}
-use Rattle.cf_filter_machine.specs.Held.{Desk}
+use Rattle.cf_filter_desk.specs.Desks.{Desk}
 use Rattle.cf_model.specs.Changes.{change, same_book}
 use Rattle.cf_filter_machine.proofs.entry_lists.enter_one.Goals as goal
 

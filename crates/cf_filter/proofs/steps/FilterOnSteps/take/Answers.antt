@@ -1,6 +1,6 @@
 use Rattle.std.proofs.Common.{subst, sym}
 use Rattle.cf_filter_machine.proofs.DeskSteps.{seen_desk}
-use Rattle.cf_filter_machine.specs.Held.{Desk}
+use Rattle.cf_filter_desk.specs.Desks.{Desk}
 use Rattle.cf_waits.specs.Steps.{IsPlanned}
 use Rattle.cf_filter.proofs.steps.FilterOnSteps.take.Goals as goal
 

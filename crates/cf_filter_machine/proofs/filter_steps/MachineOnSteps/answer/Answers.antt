@@ -6,7 +6,8 @@ use Rattle.cf_filter_machine.proofs.DeskSteps.{desk_left, seen_at, seen_cause, s
 use Rattle.cf_filter_machine.proofs.ReadSteps.{one_done, one_stays, one_stops_by}
 use Rattle.cf_filter_machine.proofs.Shown.{seen_stays}
 use Rattle.cf_filter_machine.specs.Ends.{IsCutHere}
-use Rattle.cf_filter_machine.specs.Held.{Held, desk_of}
+use Rattle.cf_filter_desk.specs.Desks.{desk_of}
+use Rattle.cf_filter_machine.specs.Held.{Held}
 use Rattle.cf_model.specs.Arrows.{one}
 use Rattle.cf_model.specs.State.{Filter}
 use Rattle.cf_model.specs.Waits.{accessed_now, wait_for}

@@ -7,7 +7,7 @@ use Rattle.cf_filter_machine.proofs.DeskSteps.{desk_lost, seen_at, seen_cause, s
 use Rattle.cf_filter_machine.proofs.Keepable.{keepable}
 use Rattle.cf_filter_machine.proofs.RoomReads.{fits_book}
 use Rattle.cf_filter_machine.proofs.Shown.{seen_same}
-use Rattle.cf_filter_machine.specs.Held.{Desk}
+use Rattle.cf_filter_desk.specs.Desks.{Desk}
 use Rattle.cf_filter_machine.specs.Sensing.{sense}
 use Rattle.cf_model.specs.Changes.{change, same_book}
 use Rattle.cf_volume_points.specs.At.{StandsEither, StandsLast}

@@ -8,9 +8,9 @@ use Rattle.cf_filter_machine.proofs.AnswerSteps.{bytes_found, end_desk, end_unre
 use Rattle.cf_filter_machine.proofs.DeskSteps.{desk_exit, seen_at, seen_cause, seen_desk, seen_leaves, seen_runs, seen_whole, with_desk}
 use Rattle.cf_filter_machine.proofs.ReadSteps.{one_done, one_lost, one_stopped}
 use Rattle.cf_filter_machine.proofs.Shown.{seen_stays}
-use Rattle.cf_filter_machine.specs.Desks.{ended}
+use Rattle.cf_filter_desk.specs.Desks.{Desk, ended}
 use Rattle.cf_filter_machine.specs.Ends.{IsCutHere}
-use Rattle.cf_filter_machine.specs.Held.{Desk, Held}
+use Rattle.cf_filter_machine.specs.Held.{Held}
 use Rattle.cf_filter_machine.specs.Sensing.{sense}
 use Rattle.cf_model.specs.Numbers.{same_key}
 use Rattle.cf_model.specs.Settling.{bytes_at, end_of, end_wait, is_access, with_access_to, with_ended}

@@ -3,7 +3,8 @@ use Rattle.cf_filter_machine.proofs.AnswerSteps.{on_ok}
 use Rattle.cf_filter_machine.proofs.DeskSteps.{seen_desk}
 use Rattle.cf_filter_machine.proofs.Listings.{entered}
 use Rattle.cf_filter_machine.specs.Entering.{Enters, MayEnter, held}
-use Rattle.cf_filter_machine.specs.Held.{Desk, Held}
+use Rattle.cf_filter_desk.specs.Desks.{Desk}
+use Rattle.cf_filter_machine.specs.Held.{Held}
 use Rattle.cf_filter_machine.specs.Sensing.{Stands}
 use Rattle.cf_model.specs.Operations.{changes_with}
 use Rattle.cf_filter_machine.proofs.filter_steps.MachineOnSteps.enter.Goals as goal

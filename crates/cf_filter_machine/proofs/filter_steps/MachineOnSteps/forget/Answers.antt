@@ -1,7 +1,7 @@
 use Rattle.std.proofs.Common.{refl}
 use Rattle.cf_filter_machine.proofs.DeskSteps.{desk_stepped, seen_desk, with_desk}
 use Rattle.cf_filter_machine.proofs.GoodSteps.{closed_good}
-use Rattle.cf_filter_machine.specs.Held.{Desk}
+use Rattle.cf_filter_desk.specs.Desks.{Desk}
 use Rattle.cf_filter_steps.specs.Answering.{Any}
 use Rattle.std.specs.Prelude.{filter, not}
 use Rattle.cf_model.specs.Numbers.{same_key}

@@ -2,7 +2,8 @@ use Rattle.std.proofs.Common.{◌∙◌, ap, sym}
 use Rattle.std.specs.Prelude.{option_copied}
 use Rattle.cf_filter_machine.proofs.DeskSteps.{seen_desk}
 use Rattle.cf_filter_machine.proofs.Seen.{met_gone, met_there}
-use Rattle.cf_filter_machine.specs.Held.{Desk, Held}
+use Rattle.cf_filter_desk.specs.Desks.{Desk}
+use Rattle.cf_filter_machine.specs.Held.{Held}
 use Rattle.cf_filter_steps.proofs.Laws.{ok_map}
 use Rattle.cf_filter_steps.specs.Needing.{meant}
 use Rattle.cf_table.specs.Tables.{row_of}

@@ -2,7 +2,7 @@ use Rattle.std.proofs.Common.{refl, ap, ◌∙◌, ℕ}
 use Rattle.std.specs.Prelude.{◌∷◌, [], ◌++◌, ◌+◌}
 use Rattle.cf_filter_machine.proofs.DeskSteps.{desk_left, desk_stepped, seen_at, seen_desk, with_desk}
 use Rattle.cf_filter_machine.proofs.GoodSteps.{opened_good}
-use Rattle.cf_filter_machine.specs.Held.{Desk, desk_of}
+use Rattle.cf_filter_desk.specs.Desks.{Desk, desk_of}
 use Rattle.cf_model.specs.Arrows.{noted}
 use Rattle.cf_model.specs.Calls.{with_handle}
 use Rattle.cf_model.specs.Numbers.{key_after}

@@ -1,7 +1,7 @@
 use Rattle.std.proofs.Common.{◌∙◌, ap}
 use Rattle.cf_filter_machine.proofs.BookSteps.{book_done, book_left, book_lost, passed_good}
 use Rattle.cf_filter_machine.proofs.DeskSteps.{on_disk, seen_at, seen_desk, seen_disk}
-use Rattle.cf_filter_machine.specs.Held.{Desk}
+use Rattle.cf_filter_desk.specs.Desks.{Desk}
 use Rattle.cf_model.specs.Arrows.{noted}
 use Rattle.cf_model.specs.Requests.{ticked}
 use Rattle.cf_model.specs.Waits.{with_clock, with_time}

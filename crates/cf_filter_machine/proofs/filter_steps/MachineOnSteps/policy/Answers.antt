@@ -1,6 +1,6 @@
 use Rattle.std.proofs.Common.{refl, ◌∙◌, ap}
 use Rattle.cf_filter_machine.proofs.DeskSteps.{reads_desk, seen_desk}
-use Rattle.cf_filter_machine.specs.Held.{Desk}
+use Rattle.cf_filter_desk.specs.Desks.{Desk}
 use Rattle.cf_filter_steps.specs.Answering.{Any}
 use Rattle.cf_filter_steps.specs.Readings.{policy_of}
 use Rattle.cf_filter_machine.proofs.filter_steps.MachineOnSteps.policy.Goals as goal

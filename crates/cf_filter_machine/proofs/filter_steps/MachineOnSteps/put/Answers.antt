@@ -8,7 +8,7 @@ use Rattle.cf_filter_machine.proofs.Keepable.{keepable}
 use Rattle.cf_filter_machine.proofs.ReadSteps.{with_memory}
 use Rattle.cf_filter_machine.proofs.RoomReads.{fits_book}
 use Rattle.cf_filter_machine.proofs.Shown.{seen_same}
-use Rattle.cf_filter_machine.specs.Held.{Desk}
+use Rattle.cf_filter_desk.specs.Desks.{Desk}
 use Rattle.cf_filter_machine.specs.Sensing.{sense}
 use Rattle.cf_model.specs.Arrows.{unit}
 use Rattle.cf_model.specs.Books.{with_access}

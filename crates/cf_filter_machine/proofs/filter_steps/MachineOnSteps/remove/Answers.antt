@@ -5,7 +5,7 @@ use Rattle.cf_base.specs.declared.notices.Notice.TheVariants as notice
 use Rattle.cf_filter_machine.proofs.DeskSteps.{seen_at, seen_cause, seen_desk, seen_leaves, seen_runs, seen_whole}
 use Rattle.cf_filter_machine.proofs.RemoveSteps.{removed_lost, removed_stopped, removed_told}
 use Rattle.cf_filter_machine.proofs.Shown.{seen_stays}
-use Rattle.cf_filter_machine.specs.Held.{Desk}
+use Rattle.cf_filter_desk.specs.Desks.{Desk}
 use Rattle.cf_filter_machine.specs.Sensing.{sense}
 use Rattle.cf_volume_points.specs.At.{StandsLast}
 use Rattle.cf_filter_steps.proofs.Laws.{with_err}

@@ -4,7 +4,8 @@ use Rattle.cf_filter_machine.proofs.DeskSteps.{desk_left, seen_at, seen_cause, s
 use Rattle.cf_filter_machine.proofs.ReadSteps.{err_map, not_rebooked, one_read}
 use Rattle.cf_filter_machine.proofs.Shown.{seen_same}
 use Rattle.cf_filter_machine.specs.Ends.{IsCutHere}
-use Rattle.cf_filter_machine.specs.Held.{Desk, Held}
+use Rattle.cf_filter_desk.specs.Desks.{Desk}
+use Rattle.cf_filter_machine.specs.Held.{Held}
 use Rattle.cf_model.specs.Arrows.{one}
 use Rattle.cf_model.specs.Operations.{as_it_is}
 use Rattle.cf_volume_points.specs.At.{StandsLast}

@@ -1,7 +1,7 @@
 use Rattle.std.proofs.Common.{◌≡◌, Bool, true, false, refl}
 use Rattle.cf_filter_machine.proofs.DeskSteps.{desk_stepped, seen_desk, with_desk}
 use Rattle.cf_filter_machine.proofs.GoodSteps.{same_good}
-use Rattle.cf_filter_machine.specs.Held.{Desk, desk_of}
+use Rattle.cf_filter_desk.specs.Desks.{Desk, desk_of}
 use Rattle.cf_model.specs.State.{Filter}
 use Rattle.cf_filter_steps.specs.Answering.{Any}
 use Rattle.cf_filter_steps.specs.Good.{IsGood}

@@ -1,7 +1,7 @@
 use Rattle.std.proofs.Common.{refl}
 use Rattle.cf_filter_machine.proofs.DeskSteps.{desk_stepped, seen_desk, with_desk}
 use Rattle.cf_filter_machine.proofs.GoodSteps.{same_good}
-use Rattle.cf_filter_machine.specs.Held.{Desk}
+use Rattle.cf_filter_desk.specs.Desks.{Desk}
 use Rattle.cf_filter_steps.specs.Answering.{Any}
 use Rattle.cf_model.specs.Calls.{with_policy}
 use Rattle.cf_filter_machine.proofs.filter_steps.MachineOnSteps.set_policy.Goals as goal

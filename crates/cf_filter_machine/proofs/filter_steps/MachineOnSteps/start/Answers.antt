@@ -3,8 +3,8 @@ use Rattle.std.specs.Prelude.{option_copied}
 use Rattle.cf_filter_machine.proofs.Beginnings.{started}
 use Rattle.cf_filter_machine.proofs.DeskSteps.{err_is, seen_desk, with_desk}
 use Rattle.cf_filter_machine.proofs.Seen.{view_gone, view_there}
-use Rattle.cf_filter_machine.specs.Desks.{BeginsBy, IfRefused}
-use Rattle.cf_filter_machine.specs.Held.{Desk, Held}
+use Rattle.cf_filter_desk.specs.Desks.{BeginsBy, Desk, IfRefused}
+use Rattle.cf_filter_machine.specs.Held.{Held}
 use Rattle.cf_model.specs.Missing.{View, view_of}
 use Rattle.cf_model.specs.Settling.{no_view}
 use Rattle.cf_filter_steps.specs.Needing.{meant}

@@ -1,7 +1,7 @@
 use Rattle.std.proofs.Common.{refl, sym, subst, ap, ◌∙◌}
 use Rattle.std.specs.Prelude.{None}
 use Rattle.cf_filter_machine.proofs.DeskSteps.{desk_left, desk_stepped, seen_desk, with_desk}
-use Rattle.cf_filter_machine.specs.Held.{Desk}
+use Rattle.cf_filter_desk.specs.Desks.{Desk}
 use Rattle.cf_model.specs.Arrows.{noted}
 use Rattle.cf_filter_steps.specs.Answering.{Any}
 use Rattle.cf_filter_machine.proofs.GoodSteps.{stepped_good}

@@ -1,6 +1,6 @@
 use Rattle.std.proofs.Common.{refl}
 use Rattle.cf_filter_machine.proofs.DeskSteps.{desk_exit, desk_stepped, seen_desk, with_desk}
-use Rattle.cf_filter_machine.specs.Held.{Desk}
+use Rattle.cf_filter_desk.specs.Desks.{Desk}
 use Rattle.cf_model.specs.Arrows.{noted}
 use Rattle.cf_filter_steps.specs.Answering.{Any}
 use Rattle.std.specs.Prelude.{◌++◌, map}

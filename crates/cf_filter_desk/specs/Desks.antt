@@ -1,5 +1,5 @@
--- What a step does to the desk.
-use Rattle.std.specs.Prelude.{◌≡◌, Bool, true, false, Option, Some, None, List, Result, Ok, Err, ◌++◌, ◌∷◌, []}
+-- What stands in memory beside a volume, and what a step does to it.
+use Rattle.std.specs.Prelude.{◌≡◌, ℕ, Bool, true, false, Option, Some, None, List, Result, Ok, Err, ◌++◌, ◌∷◌, []}
 use Rattle.cf_base.specs.declared.codes.CallError.{CallError}
 use Rattle.cf_base.specs.declared.codes.CallError.TheVariants.{No, OutOfMemory}
 use Rattle.cf_base.specs.declared.ids.ItemId.{ItemId}
@@ -7,12 +7,45 @@ use Rattle.cf_base.specs.declared.ids.WaitId.{WaitId}
 use Rattle.cf_base.specs.declared.notices.Notice.{Notice}
 use Rattle.cf_base.specs.declared.notices.Notice.TheVariants as notice
 use Rattle.cf_base.specs.declared.waits.End.{End}
-use Rattle.cf_filter_machine.specs.Held.{Desk}
 use Rattle.cf_model.specs.Missing.{View}
 use Rattle.cf_model.specs.Requests.{Told, Waiting}
 use Rattle.cf_model.specs.Waits.{Need}
 use Rattle.cf_waits.specs.Steps.{background_id, begun, begun_id, limit_of, limits_by, moved_of}
 use Rattle.cf_waits.specs.declared.moves.Moves.{Moves}
+use Rattle.cf_base.specs.declared.policies.Policy.{Policy}
+use Rattle.cf_base.specs.declared.waits.Ask.{Ask}
+use Rattle.cf_model.specs.State.{Filter, Open}
+
+-- What a restart forgets. After a call that the device or memory stopped it is broken.
+pub record Desk : Type 0 where
+  pub policy : Policy
+  pub connected : Bool
+  pub handles : List Open
+  pub handle_count : ℕ
+  pub waiting : Waiting
+  pub outbox : List Ask
+  pub own : Option WaitId
+  pub ending : Option End
+  pub notes : List Notice
+  pub broken : Bool
+  -- memory ran out in the call that broke it
+  pub lost : Bool
+
+-- the desk of a state
+abbrev pub desk_of : Filter → Desk
+desk_of s = record {
+  policy = s.policy;
+  connected = s.connected;
+  handles = s.handles;
+  handle_count = s.handle_count;
+  waiting = s.waiting;
+  outbox = s.outbox;
+  own = s.own;
+  ending = s.ending;
+  notes = s.notes;
+  broken = false;
+  lost = false;
+}
 
 -- a wait ended: the call's own, or another
 abbrev pub ended : WaitId → End → Bool → Desk → Desk

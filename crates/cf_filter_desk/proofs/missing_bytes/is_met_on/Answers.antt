@@ -2,7 +2,7 @@ use Rattle.std.proofs.Common.{◌∙◌, ap}
 use Rattle.cf_model.specs.Missing.{View, is_met}
 use Rattle.cf_model.specs.Requests.{wait_after}
 use Rattle.cf_filter_steps.proofs.Laws.{ok_map}
-use Rattle.cf_filter_machine.proofs.missing_bytes.is_met_on.Goals as goal
+use Rattle.cf_filter_desk.proofs.missing_bytes.is_met_on.Goals as goal
 
 pub returns : goal.returns
 returns c = ok_map c.is_met.result _ _

@@ -3,7 +3,7 @@
 ghost use Rattle.std.specs.Prelude.{◌≡◌, None, true, false, [], ◌∷◌, ◌++◌, ◌+◌, ◌==◌, ◌&&◌, filter, find, length, map, nat_le, not, IfErr, IfOk, OnErr, OnOk};
 ghost use Rattle.std.specs.List.{list_any};
 ghost use Rattle.cf_base.specs.declared.codes.Code.TheVariants as code;
-ghost use Rattle.cf_filter_machine.specs.Desks.{BeginsBy, IfRefused, background_lines, ended};
+ghost use Rattle.cf_filter_desk.specs.Desks.{BeginsBy, Desk, IfRefused, background_lines, ended};
 ghost use Rattle.cf_model.specs.Asks.{downed};
 ghost use Rattle.cf_model.specs.Items.{Item};
 ghost use Rattle.cf_model.specs.Missing.{view_of};
@@ -53,8 +53,6 @@ pub struct Desk {
 }
 
 impl Model for Desk {
-    ghost use Rattle.cf_filter_machine.specs.Held.{Desk};
-
     ghost Value = { Desk };
 
     ghost view = { λ d. record { policy = d.policy; connected = d.connected; handles = d.handles.items; handle_count = d.handle_count; waiting = d.requests; outbox = d.outbox.items; own = d.own; ending = d.ending; notes = d.notes; broken = d.broken; lost = d.lost } };

@@ -18,7 +18,7 @@ use cf_waits::{Moves, Requests};
 use std::alloc::Global;
 
 /// Whether nothing is missing of an item as this row says it.
-pub(crate) fn is_met_on(
+pub fn is_met_on(
     requests: &Requests,
     policy: Policy,
     row: &Row,
@@ -31,11 +31,7 @@ pub(crate) fn is_met_on(
 }
 
 /// Whether nothing is missing of an item that is gone.
-pub(crate) fn is_met_gone(
-    alloc: Global,
-    requests: &Requests,
-    need: &Need,
-) -> Result<bool, OutOfMemory>
+pub fn is_met_gone(alloc: Global, requests: &Requests, need: &Need) -> Result<bool, OutOfMemory>
     ensures { IfOk result (λ met. met ≡ is_met no_view (wait_after requests.now 0 need.now.kind need.now.item need.now.handle need.now.span)) }
 {
     let none = RangeSet::new(alloc);

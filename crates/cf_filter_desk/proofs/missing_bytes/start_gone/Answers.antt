@@ -1,7 +1,7 @@
-use Rattle.cf_filter_machine.proofs.Beginnings.{begins_err}
+use Rattle.cf_filter_desk.proofs.Beginnings.{begins_err}
 use Rattle.cf_model.specs.Settling.{no_view}
 use Rattle.cf_waits.specs.Steps.{background_id, begun, limits_by}
-use Rattle.cf_filter_machine.proofs.missing_bytes.start_gone.Goals as goal
+use Rattle.cf_filter_desk.proofs.missing_bytes.start_gone.Goals as goal
 
 pub returns-clause-err : goal.returns-clause-err
 returns-clause-err c = begins_err (limits_by c.args.need.now.kind) (background_id c.args.need.now.background c.args.need.now.item c.args.requests.now) (begun c.args.need.now.kind c.args.need.now.item c.args.need.now.handle c.args.need.now.span c.args.need.now.background no_view c.args.requests.now) c.args.requests.now c.start.result c.start.new.self c.start.ensures

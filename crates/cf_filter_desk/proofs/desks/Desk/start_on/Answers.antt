@@ -1,8 +1,8 @@
-use Rattle.cf_filter_machine.proofs.Beginnings.{begun_desk, begun_err}
-use Rattle.cf_filter_machine.specs.Held.{Desk}
+use Rattle.cf_filter_desk.proofs.Beginnings.{begun_desk, begun_err}
+use Rattle.cf_filter_desk.specs.Desks.{Desk}
 use Rattle.cf_model.specs.Missing.{view_of}
 use Rattle.cf_filter_steps.specs.Needing.{meant}
-use Rattle.cf_filter_machine.proofs.desks.Desk.start_on.Goals as goal
+use Rattle.cf_filter_desk.proofs.desks.Desk.start_on.Goals as goal
 
 pub returns-in_err-begun-clause-begins : goal.returns-in_err-begun-clause-begins
 returns-in_err-begun-clause-begins c = λ i means small.
