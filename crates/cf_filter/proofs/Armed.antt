@@ -1,5 +1,5 @@
 -- A filter whose disk is armed stands for what it stood for.
-use Rattle.std.proofs.Common.{◌≡◌, inl, sym, ◌∙◌, ap, subst, arith}
+use Rattle.std.proofs.Common.{◌≡◌, List, ℕ, inl, sym, ◌∙◌, ap, subst, arith}
 use Rattle.cf_filter_machine.proofs.Aims.{aims_on}
 use Rattle.cf_disk.specs.Disk.{IsUnchanged, Keeps, Leaves, State}
 use Rattle.cf_filter_desk.specs.Desks.{Desk}
@@ -11,6 +11,7 @@ use Rattle.cf_volume_points.proofs.Points.{Fair}
 use Rattle.cf_volume_points.proofs.Readings.{read_at}
 use Rattle.cf_volume_points.specs.At.{At}
 use Rattle.cf_volume_points.specs.Known.{Known}
+use Rattle.cf_volume_points.specs.Standing.{clusters_on}
 
 still_keeps : (d e : State) → IsUnchanged d e → Keeps d e
 still_keeps d e u = record { seen = u.seen; crash = u.crash }
@@ -37,6 +38,7 @@ module _ {D : Type 0} (state : D → State) (x y : Held D) (same : IsUnchanged (
     notes = ap (λ (d : Desk). d.notes) desk ∙ h.notes;
     policy = ap (λ (d : Desk). d.policy) desk ∙ h.policy;
     connected = ap (λ (d : Desk). d.connected) desk ∙ h.connected;
-    shows = subst (λ (k : Known). Shows k s.volume) (sym known) h.shows;
+    shows = subst (λ (c : List ℕ). Shows (clusters_on c) y.known s.volume) (sym same.seen)
+        (subst (λ (k : Known). Shows (clusters_on (state x.disk).seen) k s.volume) (sym known) h.shows);
     lasts = λ c left. h.lasts c (same.crash c left);
   }

@@ -13,6 +13,7 @@ use Rattle.cf_model.specs.Ports.{Act, Acts, Did, Failed, HasFailed, Noted, noted
 use Rattle.cf_model.specs.State.{Filter, Volume, with_notes}
 use Rattle.cf_volume.specs.Calls.{Runs}
 use Rattle.cf_volume_points.specs.Known.{Known}
+use Rattle.cf_volume_points.specs.Standing.{clusters_on}
 
 pub false_true : {A : Type 0} → false ≡ true → A
 false_true e = let bad : ⊥ = cc in absurd bad
@@ -120,7 +121,9 @@ module _ {D : Type 0} (state : D → State) where
           notes = ap (λ (d : Desk). d.notes) desk ∙ ap (λ (l : List Notice). l ++ notes_of more) stopped.notes ∙ sym (ap (λ (x : Filter). x.notes) is);
           policy = ap (λ (d : Desk). d.policy) desk ∙ stopped.policy ∙ sym (ap (λ (x : Filter). x.policy) is);
           connected = ap (λ (d : Desk). d.connected) desk ∙ stopped.connected ∙ sym (ap (λ (x : Filter). x.connected) is);
-          shows = subst (λ (k : Known). Shows k (noted_by more t).volume) (sym stays.known) (subst (λ (v : Volume). Shows y.known v) (sym (ap (λ (x : Filter). x.volume) is)) stopped.shows);
+          shows = subst (λ (d : D). Shows (clusters_on (state d).seen) z.known (noted_by more t).volume) (sym stays.disk)
+              (subst (λ (k : Known). Shows (clusters_on (state y.disk).seen) k (noted_by more t).volume) (sym stays.known)
+              (subst (λ (v : Volume). Shows (clusters_on (state y.disk).seen) y.known v) (sym (ap (λ (x : Filter). x.volume) is)) stopped.shows));
           lasts = still_lasts y.disk z.disk t.volume (noted_by more t).volume stays.disk (ap (λ (x : Filter). x.volume) is) stopped.lasts;
         },
         subst (λ (d : D). Rose (state x.disk) (state d)) (sym stays.disk) rose,

@@ -24,6 +24,7 @@ use Rattle.cf_filter_machine.specs.Sensing.{Stands}
 use Rattle.cf_filter_machine.specs.Showing.{Shows}
 use Rattle.cf_model.specs.Events.{is_of, needs_volume}
 use Rattle.cf_model.specs.State.{Filter, State, Volume}
+use Rattle.cf_volume_points.specs.Standing.{clusters_on}
 
 module _ {D A : Type 0} (acts : Acts A) (state : D → Disk) where
   -- an event that the actor begins
@@ -78,7 +79,7 @@ module _ {D A : Type 0} (acts : Acts A) (state : D → Disk) where
       let leaves = d.2 in
       let policy : x.desk.policy ≡ t.filter.policy = h.2 ∙ sym (ap (λ (f : Filter). f.policy) leaves.filter) in
       let lasts : Lasts (state x.disk) t.filter.volume = subst (λ (f : Filter). Lasts (state x.disk) f.volume) (sym leaves.filter) h.3 in
-      let shows : Shows x.known t.filter.volume = subst (λ (f : Filter). Shows x.known f.volume) (sym leaves.filter) h.4 in
+      let shows : Shows (clusters_on (state x.disk).seen) x.known t.filter.volume = subst (λ (f : Filter). Shows (clusters_on (state x.disk).seen) x.known f.volume) (sym leaves.filter) h.4 in
       let is : OnBy acts state true (record { filter = x; actor = q }) t = (leaves.power ∙ h.0, d.3, policy, lasts, shows) in
       (t, d.1, left_on past x p q s t leaves on (subst (λ (b : Bool). OnBy acts state b (record { filter = x; actor = q }) t) (sym cut) is))
   broken_left past e x p q s (Err k) on cut h d = record {}

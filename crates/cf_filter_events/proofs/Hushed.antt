@@ -14,7 +14,7 @@ use Rattle.cf_filter_machine.specs.Lasting.{Lasts, Moved}
 use Rattle.cf_filter_machine.specs.Sensing.{Stands, Stopped}
 use Rattle.cf_filter_machine.specs.Showing.{Shows}
 use Rattle.cf_model.specs.State.{Filter, Volume}
-use Rattle.cf_volume_points.specs.Standing.{clusters_for}
+use Rattle.cf_volume_points.specs.Standing.{clusters_for, clusters_on}
 use Rattle.cf_filter_steps.specs.Good.{IsGood}
 
 module _ {D : Type 0} (state : D → Disk) where
@@ -46,7 +46,7 @@ module _ {D : Type 0} (state : D → Disk) where
   unfolding noted
   stop_lasts y ns f h = h.lasts
 
-  pub stop_shows : (y : Held D) (ns : List Notice) (f : Filter) → Stopped state (noted ns y) f → Shows y.known f.volume
+  pub stop_shows : (y : Held D) (ns : List Notice) (f : Filter) → Stopped state (noted ns y) f → Shows (clusters_on (state y.disk).seen) y.known f.volume
   unfolding noted
   stop_shows y ns f h = h.shows
 

@@ -34,7 +34,7 @@ use Rattle.cf_model.specs.Trees.{Ends}
 use Rattle.cf_model.specs.Points.{Opens}
 use Rattle.cf_volume_points.proofs.Points.{kept_stands}
 use Rattle.cf_volume_points.specs.Known.{Known}
-use Rattle.cf_volume_points.specs.Standing.{Standing}
+use Rattle.cf_volume_points.specs.Standing.{Standing, clusters_on}
 
 -- what a power cut left
 abbrev pub left_by : Disk → Past
@@ -50,6 +50,9 @@ disk_cut state past choice d e v powers h = record { fit = λ leaves. subst IsFi
 
 pub lasting_again : (d e : Disk) (v : Volume) → IsUnchanged d e → Lasts d v → Lasts e v
 lasting_again d e v same h = λ c left. h c (same.crash c left)
+
+shown_again : (d e : Disk) (k l : Known) (v : Volume) → IsUnchanged d e → l ≡ k → Shows (clusters_on d.seen) k v → Shows (clusters_on e.seen) l v
+shown_again d e k l v same known h = subst (λ (c : List ℕ). Shows (clusters_on c) l v) (sym same.seen) (subst (λ (j : Known). Shows (clusters_on d.seen) j v) (sym known) h)
 
 -- the restart of a volume that is not off
 refuses : (p : Power) (s : State) → s.power ≡ p → p ≡ On → Ends (tree_of (event.Device device.Restart) s) (shown.Refused code.Running) (begun s)
@@ -111,7 +114,7 @@ module _ {D A : Type 0} (answers : Answering A) (acts : Acts A) (actor : IsActor
   }
     where
       by : (s : State) (b : Bool) → OnBy acts state b (record { filter = x; actor = p }) s → OnBy acts state b (record { filter = y; actor = p }) (begun s)
-      by s true h = (h.0, actor.holds_on p s (begun s) refl refl h.1, ap (λ (d : Desk). d.policy) desk ∙ h.2, lasting_again (state x.disk) (state y.disk) s.filter.volume same h.3, subst (λ (k : Known). Shows k s.filter.volume) (sym known) h.4)
+      by s true h = (h.0, actor.holds_on p s (begun s) refl refl h.1, ap (λ (d : Desk). d.policy) desk ∙ h.2, lasting_again (state x.disk) (state y.disk) s.filter.volume same h.3, shown_again (state x.disk) (state y.disk) x.known y.known s.filter.volume same known h.4)
       by s false h = (h.0, actor.stands_on p s (begun s) (record { plan = refl; link = refl; volatile = refl; tokens = refl }) h.1, stands (hushed s.filter) h.2)
 
   -- what the power cut leaves stands for a point

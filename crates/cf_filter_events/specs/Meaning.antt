@@ -15,7 +15,7 @@ use Rattle.cf_filter_machine.specs.Showing.{Shows}
 use Rattle.cf_model.specs.Points.{Opens}
 use Rattle.cf_model.specs.Events.{begun}
 use Rattle.cf_model.specs.State.{Broken, Off, On, Point, State, Volume}
-use Rattle.cf_volume_points.specs.Standing.{Standing, clusters_for}
+use Rattle.cf_volume_points.specs.Standing.{Standing, clusters_for, clusters_on}
 
 -- Each of these may leave in a crash what it reads as. So it is of disks, and not of a ground that no crash leaves.
 abbrev pub LeavesWhatReads : {D : Type 0} → (D → Disk) → Type 0
@@ -27,10 +27,11 @@ pub record IsDiskOf {D : Type 0} (state : D → Disk) (past : Past) (d : Disk) (
   pub clusters : v.clusters ≡ clusters_for d
   pub powers : d.powers ≡ past.told
 
--- After an event that met Device only the policy stands, what shows of the volume, and what a restart may open.
+-- After an event that met Device only the policy stands, what shows of the volume, in no more blocks than the disk has clusters, and
+-- what a restart may open.
 abbrev pub OnBy : {D A : Type 0} → Acts A → (D → Disk) → Bool → Run D A → State → Type 0
 OnBy acts state false x s = (s.power ≡ On) × acts.stands x.actor s × Stands state x.filter (hushed s.filter)
-OnBy acts state true x s = (s.power ≡ Broken) × acts.holds x.actor s × (x.filter.desk.policy ≡ s.filter.policy) × Lasts (state x.filter.disk) s.filter.volume × Shows x.filter.known s.filter.volume
+OnBy acts state true x s = (s.power ≡ Broken) × acts.holds x.actor s × (x.filter.desk.policy ≡ s.filter.policy) × Lasts (state x.filter.disk) s.filter.volume × Shows (clusters_on (state x.filter.disk).seen) x.filter.known s.filter.volume
 
 -- the volume is open
 pub record IsOn {D A : Type 0} (acts : Acts A) (state : D → Disk) (past : Past) (x : Run D A) (s : State) : Type 0 where

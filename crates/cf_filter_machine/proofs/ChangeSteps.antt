@@ -39,7 +39,7 @@ use Rattle.cf_volume_points.proofs.Points.{Fair}
 use Rattle.cf_volume_points.specs.At.{Applied, At, StandsEither, StandsLast}
 use Rattle.cf_volume_points.specs.Known.{Known}
 use Rattle.cf_volume_points.specs.Sound.{IsKeepable}
-use Rattle.cf_volume_points.specs.Standing.{IsBookOf, opened}
+use Rattle.cf_volume_points.specs.Standing.{IsBookOf, clusters_on, opened}
 use Rattle.cf_filter_steps.specs.Answering.{Answers}
 use Rattle.cf_filter_steps.specs.Good.{IsFileIn, IsGood}
 use Rattle.cf_filter_steps.specs.Suiting.{Suits}
@@ -118,9 +118,9 @@ put_stops : (f : Book → Book) (c : Change) (s : Filter) (may : Bool) → Stops
 put_stops f c s false = inl refl
 put_stops f c s true = inr (inl refl)
 
-stop_shows : (k : Known) (v : Volume) (may : Bool) → Shows k v → Shows k (stopped_at may v)
-stop_shows k v false h = h
-stop_shows k v true h = shows_begun k v h
+stop_shows : (n : ℕ) (k : Known) (v : Volume) (may : Bool) → Shows n k v → Shows n k (stopped_at may v)
+stop_shows n k v false h = h
+stop_shows n k v true h = shows_begun n k v h
 
 -- What a change leaves: it was put in, and the state after it is one that a filter has.
 pub record IsPut (d : State) (k : Known) (f : Book → Book) (c : Change) (s : Filter) : Type 0 where
@@ -210,7 +210,7 @@ module _ {D : Type 0} (state : D → State) (P : Filter → Type 0) (x : Held D)
           notes = ap (λ (z : Desk). z.notes) (same ∙ h.desk);
           policy = ap (λ (z : Desk). z.policy) (same ∙ h.desk);
           connected = ap (λ (z : Desk). z.connected) (same ∙ h.desk);
-          shows = stop_shows k s.volume (may_need_room c s.volume) (stays_shown state x k s still h);
+          shows = stop_shows (clusters_on (state d).seen) k s.volume (may_need_room c s.volume) (stays_shown state x d k s runs still h);
           lasts = stop_lasts s (may_need_room c s.volume) refl h;
         },
         cause (only s h p),

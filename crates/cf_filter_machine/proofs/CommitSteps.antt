@@ -23,6 +23,7 @@ use Rattle.cf_volume_points.proofs.Points.{Fair}
 use Rattle.cf_volume_points.specs.At.{At, StandsEither}
 use Rattle.cf_volume_points.specs.Known.{Known}
 use Rattle.cf_volume_points.specs.Sound.{IsKeepable}
+use Rattle.cf_volume_points.specs.Standing.{clusters_on}
 use Rattle.cf_filter_steps.specs.Answering.{Answers, Any}
 use Rattle.cf_volume.specs.Calls.{IsCause, Runs, StopsOnly}
 use Rattle.cf_volume.specs.Written.{contents_in}
@@ -69,7 +70,7 @@ module _ {D : Type 0} (state : D → State) (x : Held D) (d : D) (k : Known) (e 
           notes = ap (λ (z : Desk). z.notes) (same ∙ h.desk);
           policy = ap (λ (z : Desk). z.policy) (same ∙ h.desk);
           connected = ap (λ (z : Desk). z.connected) (same ∙ h.desk);
-          shows = shows_begun k s.volume (stays_shown state x k s still h);
+          shows = shows_begun (clusters_on (state d).seen) k s.volume (stays_shown state x d k s runs still h);
           lasts = lasts s h;
         },
         cause (only s.volume h.volume (keepable s.volume h.kept) h.whole),

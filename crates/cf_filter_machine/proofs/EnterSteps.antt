@@ -20,7 +20,7 @@ use Rattle.cf_filter_machine.proofs.ChangeSteps.{by_room, grows_put, later, long
 use Rattle.cf_filter_machine.proofs.EntriesKept.{book_beside, directory_first, kept_come, kept_entry, later_beside}
 use Rattle.cf_filter_machine.proofs.Rebooked.{rebooked}
 use Rattle.cf_filter_machine.proofs.PointSteps.{last_point}
-use Rattle.cf_filter_machine.proofs.Shown.{shows_at, shows_on}
+use Rattle.cf_filter_machine.proofs.Shown.{shows_after}
 use Rattle.cf_filter_machine.proofs.StillFiles.{in_place, still_opened, still_reads, with_more}
 use Rattle.cf_filter_machine.specs.Entering.{AfterEntry, Coming, EndsBy, Enters, GoesOn, IsReadyEntry, MayEnter, is_listed}
 use Rattle.cf_filter_desk.specs.Desks.{Desk, desk_of}
@@ -244,7 +244,7 @@ module _ {D : Type 0} (state : D → State) (dir : ItemId) (x : Held D) (c : Cha
             notes = ap (λ (z : Desk). z.notes) (same ∙ h.desk);
             policy = ap (λ (z : Desk). z.policy) (same ∙ h.desk);
             connected = ap (λ (z : Desk). z.connected) (same ∙ h.desk);
-            shows = shows_on x.known k s.volume still (shows_at (state x.disk) x.known s.volume h.volume);
+            shows = shows_after (state x.disk) (state d) x.known k s.volume runs still h.volume;
             lasts = stay_lasts s h;
           },
           cause ((only s h p).0),

@@ -78,7 +78,7 @@ module _ {D : Type 0} (state : D → State) (P : Filter → Type 0) (x : Held D)
           notes = ap (λ (z : Desk). z.notes) (same ∙ h.desk);
           policy = ap (λ (z : Desk). z.policy) (same ∙ h.desk);
           connected = ap (λ (z : Desk). z.connected) (same ∙ h.desk);
-          shows = stays_shown state x k s still h;
+          shows = stays_shown state x d k s runs still h;
           lasts = one_lasts s h;
         },
         cause (only s h),

@@ -141,7 +141,7 @@ module _ {D : Type 0} (state : D → State) (x : Held D) (id : ItemId) (bury : B
           notes = ap (λ (z : Desk). z.notes) (same ∙ h.desk);
           policy = ap (λ (z : Desk). z.policy) (same ∙ h.desk);
           connected = ap (λ (z : Desk). z.connected) (same ∙ h.desk);
-          shows = stays_shown state x k s still h;
+          shows = stays_shown state x d k s runs still h;
           lasts = λ m left. last_point s.volume h.points m ((crash s.volume h.volume).now m left);
         },
         cause (only s h p),

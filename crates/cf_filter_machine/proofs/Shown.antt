@@ -1,7 +1,7 @@
 -- What shows of a volume, before a call that the device stops and after it.
-use Rattle.std.proofs.Common.{◌≡◌, ◌+◌, ◌≤◌, length, refl, sym, ◌∙◌, ap, subst, arith}
+use Rattle.std.proofs.Common.{◌≡◌, ◌+◌, ◌≤◌, ℕ, length, refl, sym, ◌∙◌, ap, subst, arith}
 use Rattle.std.proofs.lemmas.Result.{err_from_is_err_and}
-use Rattle.std.specs.Prelude.{Err, IfErr, Ok, Result}
+use Rattle.std.specs.Prelude.{◌-◌, ◌/◌, Err, IfErr, Ok, Result}
 use Rattle.std.specs.Result.{IsErrAnd}
 use Rattle.cf_base.specs.declared.codes.CallError.{CallError}
 use Rattle.cf_base.specs.declared.codes.CallError.TheVariants.{OutOfMemory, No}
@@ -10,10 +10,11 @@ use Rattle.cf_disk.specs.Disk.{State}
 use Rattle.cf_filter_machine.specs.Held.{Held}
 use Rattle.cf_filter_machine.specs.Sensing.{Stands}
 use Rattle.cf_filter_machine.specs.Showing.{Shows, StaysBy}
+use Rattle.cf_model.specs.Blocks.{blocks_used}
 use Rattle.cf_model.specs.Points.{with_point_begun}
 use Rattle.cf_model.specs.State.{Filter, Volume}
 use Rattle.cf_table.specs.Tables.{MeansAll}
-use Rattle.cf_volume.specs.Calls.{IsMemory}
+use Rattle.cf_volume.specs.Calls.{IsMemory, Runs}
 use Rattle.cf_volume.specs.Written.{contents_in}
 use Rattle.cf_volume_image.specs.declared.contents.Contents.{Contents}
 use Rattle.cf_volume_points.proofs.Counted.{blocks_are_clusters, used_now}
@@ -21,24 +22,23 @@ use Rattle.cf_volume_points.proofs.KeptSound.{means_all}
 use Rattle.cf_volume_points.specs.At.{At}
 use Rattle.cf_volume_points.specs.Clusters.{clusters_in_rows}
 use Rattle.cf_volume_points.specs.Known.{Known}
-use Rattle.cf_volume_points.specs.Standing.{cluster_on}
+use Rattle.cf_volume_points.specs.Standing.{cluster_on, clusters_on}
 
-pub shows_at : (d : State) (k : Known) (v : Volume) → At d k v → Shows k v
+pub shows_at : (d : State) (k : Known) (v : Volume) → At d k v → Shows (clusters_on d.seen) k v
 shows_at d k v at =
     let used = used_now (cluster_on d.seen) v.book k.table.rows v.items k.uses at.now.rows at.now.owns in
     let sums = uses_add_up k.uses in
-    let most = at.last.kept.few in
+    let within : blocks_used v.items ≤ length k.uses = omega (arith, used, sums) in
     record {
       rows = means_all (cluster_on d.seen) v.book k.table.rows v.items at.now.rows;
       blocks = blocks_are_clusters (cluster_on d.seen) v.book k.table.rows v.items at.now.rows;
-      few = omega (arith, used, sums, most);
+      few = subst (λ (n : ℕ). blocks_used v.items ≤ n) at.last.kept.clusters within;
       count = at.now.count;
       epoch = at.now.epoch;
     }
 
--- a call that left what the volume says of its items
-pub shows_on : (k l : Known) (v : Volume) → contents_in l ≡ contents_in k → Shows k v → Shows l v
-shows_on k l v same h = record {
+shows_on : (n : ℕ) (k l : Known) (v : Volume) → contents_in l ≡ contents_in k → Shows n k v → Shows n l v
+shows_on n k l v same h = record {
   rows = subst (λ (c : Contents). MeansAll c.rows.rows v.items) (sym same) h.rows;
   blocks = ap (λ (c : Contents). length (clusters_in_rows c.rows.rows)) same ∙ h.blocks;
   few = h.few;
@@ -46,12 +46,17 @@ shows_on k l v same h = record {
   epoch = ap (λ (c : Contents). c.last.epoch) same ∙ h.epoch;
 }
 
--- a commit that was begun
-pub shows_begun : (k : Known) (v : Volume) → Shows k v → Shows k (with_point_begun v)
-shows_begun k v h = record { rows = h.rows; blocks = h.blocks; few = h.few; count = h.count; epoch = h.epoch }
+-- a call that left what the volume says of its items, and the size of the disk
+pub shows_after : (d e : State) (k l : Known) (v : Volume) → Runs d e → contents_in l ≡ contents_in k → At d k v → Shows (clusters_on e.seen) l v
+shows_after d e k l v runs same at =
+    subst (λ (n : ℕ). Shows n l v) (ap (λ (n : ℕ). (n - 3145728) / 4096) (sym runs.size)) (shows_on (clusters_on d.seen) k l v same (shows_at d k v at))
 
-pub stays_shown : {D : Type 0} (state : D → State) (x : Held D) (k : Known) (s : Filter) → contents_in k ≡ contents_in x.known → Stands state x s → Shows k s.volume
-stays_shown state x k s same h = shows_on x.known k s.volume same (shows_at (state x.disk) x.known s.volume h.volume)
+-- a commit that was begun
+pub shows_begun : (n : ℕ) (k : Known) (v : Volume) → Shows n k v → Shows n k (with_point_begun v)
+shows_begun n k v h = record { rows = h.rows; blocks = h.blocks; few = h.few; count = h.count; epoch = h.epoch }
+
+pub stays_shown : {D : Type 0} (state : D → State) (x : Held D) (d : D) (k : Known) (s : Filter) → Runs (state x.disk) (state d) → contents_in k ≡ contents_in x.known → Stands state x s → Shows (clusters_on (state d).seen) k s.volume
+stays_shown state x d k s runs same h = shows_after (state x.disk) (state d) x.known k s.volume runs same h.volume
 
 -- what a call left, as fields of a value
 

@@ -13,6 +13,7 @@ use Rattle.cf_volume.specs.Calls.{Runs}
 use Rattle.cf_model.specs.State.{Filter}
 use Rattle.cf_volume_points.proofs.Points.{Fair}
 use Rattle.cf_volume_points.specs.At.{At}
+use Rattle.cf_volume_points.specs.Standing.{clusters_on}
 use Rattle.cf_volume_room.specs.Aims.{IsAimedBy}
 use Rattle.cf_filter_steps.specs.Answering.{Sense}
 use Rattle.cf_filter_steps.specs.Good.{IsGood}
@@ -36,12 +37,13 @@ Rose d e = HasFailed d e
 pub rose_on : (c d e : State) → Runs c d → Rose d e → Rose c e
 rose_on c d e runs rose = (omega (arith, runs.faults, rose.0), omega (arith, runs.calm, rose.1))
 
--- after a device call that failed: what was told stands, the volume shows what the state has, and a restart opens a point of it
+-- After a device call that failed: what was told stands, the volume shows what the state has, in no more blocks than the disk has
+-- clusters, and a restart opens a point of it.
 pub record Stopped {D : Type 0} (state : D → State) (x : Held D) (s : Filter) : Type 0 where
   pub notes : x.desk.notes ≡ s.notes
   pub policy : x.desk.policy ≡ s.policy
   pub connected : x.desk.connected ≡ s.connected
-  pub shows : Shows x.known s.volume
+  pub shows : Shows (clusters_on (state x.disk).seen) x.known s.volume
   pub lasts : Lasts (state x.disk) s.volume
 
 abbrev pub sense : {D : Type 0} → (D → State) → Sense (Held D)

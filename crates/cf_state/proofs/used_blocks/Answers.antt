@@ -11,5 +11,5 @@ use Rattle.cf_state.proofs.used_blocks.Goals as goal
 pub returns-in-On : goal.returns-in-On
 returns-in-On g c = λ past s is.
     let rows = c.as_slice.ensures.value ∙ ap (λ (t : Table). t.rows) (c.rows.ensures ∙ ap (λ (k : Known). k.table) c.volume.ensures.known) in
-    used_on g.A.Actor.acts g.D.Disk.state past c.in-On.running s c.clusters_in.result (c.clusters_in.ensures ∙ ap (λ (rs : List Row). min (length (clusters_in_rows rs)) 4294967295) rows)
+    used_on g.A.Actor.acts g.D.Disk.state past g.met.D.Disk.reads_one c.in-On.running s c.clusters_in.result (c.clusters_in.ensures ∙ ap (λ (rs : List Row). min (length (clusters_in_rows rs)) 4294967295) rows)
     (subst (λ (x : Acting _ _). Is g.A.Actor.acts g.D.Disk.state past x s) c.in-On.is is)
