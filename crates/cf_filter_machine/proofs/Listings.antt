@@ -31,7 +31,7 @@ use Rattle.cf_filter_steps.specs.Answering.{After, Answers, Reads}
 use Rattle.cf_filter_steps.specs.Good.{Every}
 use Rattle.cf_filter_steps.specs.Listing.{AreEntries, HasRecordsBeside, IsEntry, Listing, ReadyListed, room_listed}
 use Rattle.cf_volume.specs.RoomLeft.{FitInTurn, FitsAmong, HasBeside, HasRoomWith}
-use Rattle.cf_volume.specs.declared.room.changes.Room.{Room}
+use Rattle.cf_volume_changes.specs.declared.room.changes.Room.{Room}
 
 -- each of its changes finds room
 

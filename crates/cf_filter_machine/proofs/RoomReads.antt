@@ -24,7 +24,7 @@ use Rattle.cf_filter_steps.specs.Good.{Every}
 use Rattle.cf_filter_steps.specs.Readings.{room_of}
 use Rattle.cf_filter_steps.specs.Suiting.{FitsTable, Plants, Suiting, SuitsAll}
 use Rattle.cf_volume.specs.RoomLeft.{FitInTurn, FitsAmong, HasRoomFor}
-use Rattle.cf_volume.specs.declared.room.changes.Room.{Room}
+use Rattle.cf_volume_changes.specs.declared.room.changes.Room.{Room}
 
 -- the ids stay below the next one
 

@@ -32,10 +32,10 @@ use Rattle.cf_table.specs.Means.{IsFresh, IsLater}
 use Rattle.cf_table.specs.Spelling.{HasRoom}
 use Rattle.cf_table.specs.Tables.{RisesFrom, Table, row_of, with_row}
 use Rattle.cf_table.specs.declared.rows.Row.{Row}
-use Rattle.cf_volume.proofs.Puts.{all_with, inside_with, later_next}
+use Rattle.cf_volume_changes.proofs.Puts.{all_with, inside_with, later_next}
 use Rattle.cf_volume.proofs.Staged.{same_here}
-use Rattle.cf_volume.specs.NewRows.{Arrives, IsMade}
-use Rattle.cf_volume.specs.Steady.{Steady}
+use Rattle.cf_volume_changes.specs.NewRows.{Arrives, IsMade}
+use Rattle.cf_volume_changes.specs.Steady.{Steady}
 
 known_added : (next : ItemId) (rows then' : List Row) (p : Row) → RisesFrom 0 rows → next.0 ≤ p.id.0 → (key : ItemId) → row_then key then' next (row_of (with_row p rows) key) ≡ row_then key then' next (row_of rows key)
 known_added next rows then' p rises high key = elim (cases_eq p.id.0 key.0) [

@@ -9,7 +9,7 @@ use Rattle.cf_model.specs.Books.{Book}
 use Rattle.cf_model.specs.Images.{table_full}
 use Rattle.cf_model.specs.State.{Volume}
 use Rattle.cf_volume_points.specs.Known.{Known}
-use Rattle.cf_volume.specs.AuxPuts.{IsAuxKept, IsAuxPut}
+use Rattle.cf_volume_changes.specs.AuxPuts.{IsAuxKept, IsAuxPut}
 
 pub aux_refused : (v : Volume) (b : Book) (result : Result (Unit {0}) CallError) (e : CallError) (c : Code) → result ≡ Err e → e ≡ No c → IsAuxPut v b result → table_full v.items b ≡ true
 aux_refused v b result e c is refused put = subst (λ (r : Result (Unit {0}) CallError). IsAuxPut v b r) (is ∙ (λ j. Err (refused j))) put

@@ -23,7 +23,7 @@ use Rattle.cf_table.specs.Means.{KeepsRest, Means}
 use Rattle.cf_table.specs.Tables.{RisesFrom, Table, row_of, with_row}
 use Rattle.cf_table.specs.declared.rows.Row.{Row}
 use Rattle.cf_volume.proofs.KeptBytes.{all_gone}
-use Rattle.cf_volume.specs.Laid.{AreRising, Carries}
+use Rattle.cf_volume_changes.specs.Laid.{AreRising, Carries}
 
 -- extents say nothing of the item
 pub with_extents : (r : Row) (es : List (ℕ × ℕ)) (i : Item) → Means r i → Means (record r { extents = es }) i

@@ -1,13 +1,11 @@
 -- A commit of the parts of a volume.
 use Rattle.std.proofs.Common.{◌≡◌, ℕ, ◌<◌, Bool, true, false, not, eqb, List, [], ◌∷◌, length, map, Some, None, sym, ◌∙◌, ap, subst, arith}
 use Rattle.std.specs.Prelude.{All, ◌-◌, ◌/◌, sum_by}
-use Rattle.std.proofs.lemmas.Bool.{cond-false, eq-eqb, true≢false}
 use Rattle.std.proofs.lemmas.List.{length-map}
 use Rattle.std.proofs.lemmas.List.Elements.{All-head, All-tail, All-nil, All-cons, All-weaker}
-use Rattle.cf_base.specs.declared.ids.ItemId.{ItemId}
 use Rattle.cf_volume_commit.specs.Differing.{IsThen}
 use Rattle.cf_volume_commit.specs.Leading.{CanBeWritten, HaveStoredPins}
-use Rattle.cf_volume_commit.specs.declared.earlier.Earlier.{Earlier}
+use Rattle.cf_volume_points.specs.declared.earlier.Earlier.{Earlier}
 use Rattle.cf_clusters.specs.Roles.{committed, how_many, is_now}
 use Rattle.cf_clusters.specs.declared.uses.Use.{Use}
 use Rattle.cf_disk.specs.Disk.{Leaves, Only, State, size_of}
@@ -18,8 +16,7 @@ use Rattle.cf_journal.specs.declared.journals.Journal.{Journal}
 use Rattle.cf_model.specs.Books.{Book}
 use Rattle.cf_model.specs.Formats.{Image}
 use Rattle.cf_model.specs.Images.{aux_len}
-use Rattle.cf_model.specs.Items.{Item, item_of, root}
-use Rattle.cf_model.specs.Numbers.{root_id}
+use Rattle.cf_model.specs.Items.{Item, item_of}
 use Rattle.cf_model.specs.Points.{with_room_point, with_sure_point}
 use Rattle.cf_model.specs.State.{Volume}
 use Rattle.cf_volume_points.proofs.Commits.{committed_known, image_len_is}
@@ -37,11 +34,11 @@ use Rattle.cf_volume_points.specs.Standing.{cluster_on}
 use Rattle.cf_table.proofs.RowOfItem.{rows_have_room}
 use Rattle.cf_table.specs.Booked.{AreRowsOf}
 use Rattle.cf_table.specs.Reading.{IsStored}
-use Rattle.cf_table.specs.Tables.{AreTableRows, MeansAll, RisesFrom, without_row}
+use Rattle.cf_table.specs.Tables.{AreTableRows, RisesFrom}
 use Rattle.cf_table.specs.declared.rows.Row.{Row}
-use Rattle.cf_volume.specs.Notes.{NotesNothing}
-use Rattle.cf_volume.specs.Steady.{Steady, known_of}
-use Rattle.cf_volume.specs.declared.parts.Parts.{Parts}
+use Rattle.cf_volume_changes.specs.Notes.{NotesNothing}
+use Rattle.cf_volume_changes.specs.Steady.{Steady, known_of}
+use Rattle.cf_volume_changes.specs.declared.parts.Parts.{Parts}
 
 -- what is noted is what differs from the last point
 pub then_is : (s : State) (p : Parts) (v : Volume) (at : At s (known_of p) v) → IsThen p.then p.contents at.last.image
@@ -123,14 +120,6 @@ committed_steady old new k journal steady size usable =
       usable = usable;
     }
 
--- a table without the root of a new one
-pub none_left : (rows : List Row) → MeansAll rows (root ∷ []) → without_row root_id rows ≡ []
-none_left [] m = absurd m
-none_left (r ∷ []) m =
-    let one = ap (λ (i : ItemId). i.0) m.0.id in
-    cond-false (not (eqb r.id.0 1)) (r ∷ []) [] (ap not (eq-eqb r.id.0 1 one))
-none_left (r ∷ s ∷ rs) m = absurd m.1
-
 -- What `save` asks of the last point, and what it gives then.
 abbrev Given : (ℕ → Image → Type 0) → State → Parts → Type 0
 Given P old p = (n : ℕ) (image : Image) → IsBacked old p.journal n image → IsThen p.then p.contents image → HaveStoredPins p.contents.rows.rows → P n image
@@ -158,6 +147,3 @@ module _ (old new : State) (p : Parts) (fair : Fair old) (steady : Steady (size_
     pub commit_room : At new after (with_room_point v)
     commit_room = subst (λ (k : Known). At new k (with_room_point v)) (committed_is (known_of p) journal held then used nothing uses used_is)
         (room_at old new (known_of p) v fair at journal sound keep (of_last (λ n image. SavedIfLeft journal new (image_of p.contents)) saved) keys size only rest)
-
-pub not_yes : (b : Bool) → b ≡ false → b ≡ true → ⊥
-not_yes b e f = true≢false (sym f ∙ e)

@@ -35,10 +35,10 @@ use Rattle.cf_table.specs.Tables.{AreTableRows, RisesFrom, Table, row_of, with_r
 use Rattle.cf_table.specs.declared.rows.Row.{Row}
 use Rattle.cf_volume.proofs.AddedPut.{added_put, added_steady}
 use Rattle.cf_volume.proofs.Carried.{with_extents}
-use Rattle.cf_volume.proofs.Puts.{found_table, inside_named}
+use Rattle.cf_volume_changes.proofs.Puts.{found_table, inside_named}
 use Rattle.cf_volume.specs.Copies.{AreSources, Duplicates, blocks_of}
-use Rattle.cf_volume.specs.NewRows.{Arrives, IsCopied}
-use Rattle.cf_volume.specs.Steady.{Steady}
+use Rattle.cf_volume_changes.specs.NewRows.{Arrives, IsCopied}
+use Rattle.cf_volume_changes.specs.Steady.{Steady}
 
 -- a copy puts as many blocks as its source has clusters
 pub copy_puts : (s : State) (k : Known) (v : Volume) (c : Change) (p source : Row) (i : Item) (from : ItemId) → At s k v → row_of k.table.rows from ≡ Some source → IsCopied c v p i from → length (puts_into v.items c) ≡ length source.extents

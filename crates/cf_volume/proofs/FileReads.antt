@@ -28,7 +28,7 @@ use Rattle.cf_table.specs.declared.rows.Row.{Row}
 use Rattle.std.proofs.lemmas.Option.{same_Some}
 use Rattle.cf_volume.proofs.Staged.{loaded}
 use Rattle.cf_volume.proofs.Stagings.{ran_none, ran_then}
-use Rattle.cf_volume.specs.Laid.{HoldsIn}
+use Rattle.cf_volume_changes.specs.Laid.{HoldsIn}
 use Rattle.cf_volume.specs.Reads.{HasRead, HoldsFile}
 use Rattle.cf_volume_points.specs.Runs.{Ran}
 use Rattle.std.specs.Option.{ForSome}

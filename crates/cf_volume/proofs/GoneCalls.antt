@@ -22,12 +22,12 @@ use Rattle.cf_volume_points.specs.Staging.{DropsAll}
 use Rattle.cf_table.specs.Changing.{item_of_change}
 use Rattle.cf_table.specs.Tables.{RisesFrom, Table, row_of, without_row}
 use Rattle.cf_table.specs.declared.rows.Row.{Row}
-use Rattle.cf_volume.proofs.GoneFits.{gone, gone_fitting, gone_put}
-use Rattle.cf_volume.proofs.Puts.{found_inside}
-use Rattle.cf_volume.specs.Calls.{IsPut}
-use Rattle.cf_volume.specs.Keys.{IsRemove, seen_key}
-use Rattle.cf_volume.specs.Notes.{Notes, NotesKey}
-use Rattle.cf_volume.specs.Steady.{Steady}
+use Rattle.cf_volume_changes.proofs.GoneFits.{gone, gone_fitting, gone_put}
+use Rattle.cf_volume_changes.proofs.Puts.{found_inside}
+use Rattle.cf_volume_changes.specs.Calls.{IsPut}
+use Rattle.cf_volume_changes.specs.Keys.{IsRemove, seen_key}
+use Rattle.cf_volume_changes.specs.Notes.{Notes, NotesKey}
+use Rattle.cf_volume_changes.specs.Steady.{Steady}
 
 pub gone_inside : (P : ℕ → Type 0) (rows : List Row) (id : ItemId) → All P (clusters_in_rows rows) → All P (named_in (row_of rows id))
 gone_inside P rows id all = by (row_of rows id) refl

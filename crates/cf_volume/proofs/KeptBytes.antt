@@ -19,7 +19,7 @@ use Rattle.cf_table.proofs.Meaning.{held_filled, held_wrote}
 use Rattle.cf_table.specs.Applied.{item_effect}
 use Rattle.cf_table.specs.Means.{Means}
 use Rattle.cf_table.specs.declared.rows.Row.{Row}
-use Rattle.cf_volume.specs.Laid.{may_be_gone, takes_bytes}
+use Rattle.cf_volume_changes.specs.Laid.{may_be_gone, takes_bytes}
 
 -- a byte that is held stays
 stays_held : (c : Change) (i : Item) (pin : Pin) (n : Usn) (p : ℕ) → takes_bytes c ≡ false → is_held i.held p ≡ true → is_held (item_effect c pin n i).held p ≡ true

@@ -16,10 +16,10 @@ use Rattle.cf_ranges.specs.Positions.{contains}
 use Rattle.cf_table.specs.Tables.{row_of}
 use Rattle.cf_table.specs.declared.rows.Row.{Row}
 use Rattle.cf_volume.proofs.FileReads.{item_read}
-use Rattle.cf_volume.proofs.Puts.{found_inside, named_inside}
-use Rattle.cf_volume.specs.Calls.{IsHere}
+use Rattle.cf_volume_changes.proofs.Puts.{found_inside, named_inside}
+use Rattle.cf_volume_changes.specs.Calls.{IsHere}
 use Rattle.cf_volume.specs.Reads.{HasRead}
-use Rattle.cf_volume.specs.Steady.{Steady}
+use Rattle.cf_volume_changes.specs.Steady.{Steady}
 
 pub here_all : (o : Option Row) (r : Row) (start end : ℕ) → IsHere o start end → o ≡ Some r → (p : ℕ) → start ≤ p → p < end → contains r.here p ≡ true
 here_all None r start end h e p low high = absurd h

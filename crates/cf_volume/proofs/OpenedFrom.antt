@@ -15,9 +15,9 @@ use Rattle.cf_table.specs.Changing.{IsNext}
 use Rattle.cf_volume_points.specs.Known.{Known}
 use Rattle.cf_volume_points.specs.Sound.{Sound}
 use Rattle.cf_volume.proofs.Stopped.{refused_as}
-use Rattle.cf_volume.specs.Calls.{IsRefused}
+use Rattle.cf_volume_changes.specs.Calls.{IsRefused}
 use Rattle.cf_volume.specs.Openings.{IsOpenedFrom}
-use Rattle.cf_volume.specs.Steady.{Steady}
+use Rattle.cf_volume_changes.specs.Steady.{Steady}
 
 known_from : (p : Parts) (i : Image) → image_of p.contents ≡ raised_image i.header.last.epoch i → IsOpenedFrom i (loaded.known_of p)
 known_from p i told = record {

@@ -28,11 +28,11 @@ use Rattle.cf_table.specs.Spelling.{HasRoom}
 use Rattle.cf_table.specs.Tables.{AreTableRows, RisesFrom, Table, row_of}
 use Rattle.cf_table.specs.declared.rows.Row.{Row}
 use Rattle.cf_volume.proofs.Carried.{carried_at}
-use Rattle.cf_volume.proofs.Noted.{found_id}
-use Rattle.cf_volume.proofs.Puts.{all_with, found_inside, found_table, inside_named, inside_with, known_with, named_inside, next_with, puts_rise, some_row}
-use Rattle.cf_volume.specs.Laid.{AreRising, Carries, Plans, may_be_gone}
-use Rattle.cf_volume.specs.Notes.{Notes}
-use Rattle.cf_volume.specs.Steady.{Steady}
+use Rattle.cf_volume_changes.proofs.Noted.{found_id}
+use Rattle.cf_volume_changes.proofs.Puts.{all_with, found_inside, found_table, inside_named, inside_with, known_with, named_inside, next_with, puts_rise, some_row}
+use Rattle.cf_volume_changes.specs.Laid.{AreRising, Carries, Plans, may_be_gone}
+use Rattle.cf_volume_changes.specs.Notes.{Notes}
+use Rattle.cf_volume_changes.specs.Steady.{Steady}
 
 pub room_for : (size : ℕ) (k : Known) → Steady size k → place (length k.uses) ≤ size
 room_for size k steady = omega (arith, steady.fit, steady.clusters)

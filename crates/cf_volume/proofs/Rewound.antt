@@ -22,9 +22,9 @@ use Rattle.cf_table.specs.Spelling.{row_value}
 use Rattle.cf_table.specs.Tables.{AreTableRows, RisesFrom, row_of}
 use Rattle.cf_table.specs.declared.rows.Row.{Row}
 use Rattle.cf_volume.proofs.Committed.{booked_rows}
-use Rattle.cf_volume.specs.Calls.{OnDisk}
+use Rattle.cf_volume_changes.specs.Calls.{OnDisk}
 use Rattle.cf_volume.specs.Rewinding.{IsLast, Rewinds}
-use Rattle.cf_volume.specs.Steady.{Steady}
+use Rattle.cf_volume_changes.specs.Steady.{Steady}
 use Rattle.cf_volume_commit.proofs.LaterNumbers.{raised_later}
 use Rattle.cf_volume_commit.proofs.NamedRows.{rise_so}
 use Rattle.cf_volume_commit.proofs.OpenedAt.{opened_holds, stands_raised}

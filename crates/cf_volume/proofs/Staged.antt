@@ -11,7 +11,7 @@ use Rattle.cf_disk.specs.Leaving.{leaves_then, leaves_weaker}
 use Rattle.cf_volume_points.specs.Staging.{StagesBlock}
 use Rattle.cf_volume_points.specs.Standing.{cluster_on}
 use Rattle.cf_ranges.specs.Pairs.{IsRising, Puts, cluster_at}
-use Rattle.cf_volume.specs.Laid.{HoldsIn}
+use Rattle.cf_volume_changes.specs.Laid.{HoldsIn}
 
 pub same_here : (P : Use → Type 0) (uses : List Use) (c : List ℕ) → SameWhere P uses c c
 same_here P uses c = record { size = refl; halves = refl; clusters = λ k lt h. refl }

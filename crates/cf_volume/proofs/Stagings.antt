@@ -16,7 +16,8 @@ use Rattle.cf_volume_points.specs.Staging.{AreBlocks, Moves, StagesBlock}
 use Rattle.cf_volume_points.specs.Standing.{cluster_on}
 use Rattle.cf_ranges.specs.Pairs.{cluster_at}
 use Rattle.cf_table.specs.declared.rows.Row.{Row}
-use Rattle.cf_volume.specs.Laid.{AreRising, HoldsIn, Lays, StagesAll}
+use Rattle.cf_volume_changes.proofs.Removed.{take_next}
+use Rattle.cf_volume_changes.specs.Laid.{AreRising, HoldsIn, Lays, StagesAll}
 use Rattle.std.specs.Prelude.{IfErr, Result, Ok, Err}
 use Rattle.std.specs.Result.{IsErrAnd}
 use Rattle.cf_volume_points.specs.declared.stops.Stop.{Stop}
@@ -44,11 +45,6 @@ not_yet low (b ∷ bs) zero d r lt = refl
 not_yet low (b ∷ bs) (suc i) d r lt =
     let later = before_rising (b + 1) bs i d r.1 (omega (arith, lt)) in
     ap (λ (t : Bool). t || is_among (take i bs) (get_or bs i d)) (ne_eqb b (get_or bs i d) (λ same. omega (arith, same, later))) ∙ not_yet (b + 1) bs i d r.1 (omega (arith, lt))
-
-pub take_next : (xs : List ℕ) (i d : ℕ) → i < length xs → take (suc i) xs ≡ take i xs ++ get_or xs i d ∷ []
-take_next [] i d lt = absurd (omega (arith, lt))
-take_next (x ∷ xs) zero d lt = refl
-take_next (x ∷ xs) (suc i) d lt = ap (λ (l : List ℕ). x ∷ l) (take_next xs i d (omega (arith, lt)))
 
 -- the block's old cluster holds what it held before
 held_in : (rest : ℕ → ℕ) (was : ℕ → List ℕ) (before after : List (Option ℕ)) (done : List ℕ) (uses : List Use) (es : List (ℕ × ℕ)) (disk : List ℕ) (number : ℕ) → AreBlocks rest was before after done uses es (cluster_on disk) → is_among done number ≡ false

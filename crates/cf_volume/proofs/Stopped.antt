@@ -12,7 +12,7 @@ use Rattle.cf_volume_points.specs.Known.{Known}
 use Rattle.cf_volume_points.specs.Runs.{IsStop}
 use Rattle.cf_volume_points.specs.declared.stops.Stop.{Stop}
 use Rattle.cf_volume_points.specs.declared.stops.Stop.TheVariants.{Device, OutOfMemory}
-use Rattle.cf_volume.specs.Calls.{IsCause, IsFullness, IsKept, IsPut, IsRefused, StopsOnly, fail_of}
+use Rattle.cf_volume_changes.specs.Calls.{IsCause, IsFullness, IsKept, IsPut, IsRefused, StopsOnly, fail_of}
 
 -- a want of room is no failure of the device
 pub not_device : (c : Code) → IsFullness c → c ≡ code.Device → ⊥

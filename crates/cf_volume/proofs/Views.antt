@@ -9,7 +9,7 @@ use Rattle.cf_base.specs.declared.ids.ItemId.{ItemId}
 use Rattle.cf_volume_points.specs.At.{At}
 use Rattle.cf_volume_points.specs.Known.{Known}
 use Rattle.cf_table.specs.Tables.{row_of}
-use Rattle.cf_volume.specs.Calls.{HasRecords, IsHere, OnDisk, put_record}
+use Rattle.cf_volume_changes.specs.Calls.{HasRecords, IsHere, OnDisk, put_record}
 use Rattle.std.specs.Prelude.{ℕ}
 
 pub seen_at : {D : Type 0} {a b : OnDisk D} → (state : D → State) (v : Volume) → a ≡ b → At (state a.disk) a.known v → At (state b.disk) b.known v

@@ -19,7 +19,7 @@ use Rattle.cf_volume_points.specs.At.{At, StandsLast, StandsNow}
 use Rattle.cf_volume_points.specs.Known.{Known}
 use Rattle.cf_volume_points.specs.Standing.{Standing}
 use Rattle.cf_volume.specs.Accepted.{FollowsAim, IsDone, IsJudged}
-use Rattle.cf_volume.specs.Calls.{Answers, IsKept, IsStopping, OnDisk, StopsOnly}
+use Rattle.cf_volume_changes.specs.Calls.{Answers, IsKept, IsStopping, OnDisk, StopsOnly}
 
 -- a room point is the volume now
 pub room_now : (v : Volume) (c : List ℕ) → StandsLast (with_room_point v) c → StandsNow v c

@@ -16,10 +16,10 @@ use Rattle.cf_model.specs.State.{Volume}
 use Rattle.cf_table.specs.Changing.{item_of_change, stays}
 use Rattle.cf_table.specs.Tables.{row_of}
 use Rattle.cf_table.specs.declared.rows.Row.{Row}
-use Rattle.cf_volume.proofs.Judged.{plan_puts}
-use Rattle.cf_volume.specs.Calls.{Answers, OnDisk, StopsOnly}
-use Rattle.cf_volume.specs.Laid.{Plans}
-use Rattle.cf_volume.specs.Notes.{Notes, SetsNoted}
+use Rattle.cf_volume_changes.proofs.Judged.{plan_puts}
+use Rattle.cf_volume_changes.specs.Calls.{Answers, OnDisk, StopsOnly}
+use Rattle.cf_volume_changes.specs.Laid.{Plans}
+use Rattle.cf_volume_changes.specs.Notes.{Notes, SetsNoted}
 use Rattle.cf_volume.specs.Written.{IsAtPoint, NotesOnly, WritesAtMost, commit_bytes}
 use Rattle.cf_volume_points.specs.At.{At}
 use Rattle.cf_volume_points.specs.Known.{Known, or_now}
@@ -29,7 +29,7 @@ use Rattle.cf_volume_points.specs.Runs.{Ran}
 pub plan_writes : (s t : State) (k : Known) (v : Volume) (c : Change) (pin : Pin) (n : Usn) (row planned : Row) (blocks : List ℕ) → At s k v → stays c ≡ true → row_of k.table.rows (item_of_change c) ≡ Some row
     → Plans c pin n row planned blocks → Ran (4096 * length blocks) s t → WritesAtMost (most_of_change v.items c) s t
 plan_writes s t k v c pin n row planned blocks at kind found plan ran =
-    omega (arith, ap (λ (m : ℕ). 4096 * m) (plan_puts s k v c pin n row planned blocks at kind found plan), ran.written)
+    omega (arith, ap (λ (m : ℕ). 4096 * m) (plan_puts s k v c pin n row planned blocks at.now kind found plan), ran.written)
 
 -- a row that is found twice is one
 pub source_ran : (rows : List Row) (from : ItemId) (source r : Row) (pairs : List (ℕ × ℕ)) (s t : State) → row_of rows from ≡ Some source → row_of rows from ≡ Some r → pairs ≡ source.extents → Ran (4096 * length pairs) s t → Ran (4096 * length r.extents) s t

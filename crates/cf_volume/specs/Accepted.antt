@@ -10,7 +10,7 @@ use Rattle.cf_model.specs.Changes.{may_need_room, next_number, put_change, why_n
 use Rattle.cf_model.specs.State.{Volume}
 use Rattle.cf_volume_points.specs.At.{At}
 use Rattle.cf_volume_points.specs.Known.{Known}
-use Rattle.cf_volume.specs.Steady.{Steady}
+use Rattle.cf_volume_changes.specs.Steady.{Steady}
 
 -- why the change is put, refused, or waits for room
 abbrev pub IsJudged : Change → Volume → Result (Option Usn) CallError → Type 0

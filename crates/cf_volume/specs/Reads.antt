@@ -3,7 +3,7 @@ use Rattle.std.specs.Prelude.{◌≡◌, ◌≤◌, ◌<◌, ℕ, true, List, Op
 use Rattle.cf_disk.specs.Disk.{Keeps, Leaves, State}
 use Rattle.cf_model.specs.Items.{is_held}
 use Rattle.cf_ranges.specs.Pairs.{cluster_at}
-use Rattle.cf_volume.specs.Laid.{HoldsIn}
+use Rattle.cf_volume_changes.specs.Laid.{HoldsIn}
 use Rattle.cf_volume_points.specs.Runs.{Ran}
 
 -- the clusters of the extents hold these bytes, all of those from a place to another are held

@@ -3,7 +3,7 @@ use Rattle.std.specs.Prelude.{◌≡◌, ◌≤◌, ◌+◌, ◌&&◌, ℕ, Bool
 use Rattle.cf_base.specs.declared.ids.ItemId.{ItemId}
 use Rattle.cf_volume_commit.specs.Differing.{text_of}
 use Rattle.cf_volume_commit.specs.Leading.{bytes_written}
-use Rattle.cf_volume_commit.specs.declared.earlier.Earlier.{Earlier}
+use Rattle.cf_volume_points.specs.declared.earlier.Earlier.{Earlier}
 use Rattle.cf_disk.specs.Disk.{State}
 use Rattle.cf_volume_image.specs.Contents.{image_of}
 use Rattle.cf_volume_image.specs.declared.contents.Contents.{Contents}

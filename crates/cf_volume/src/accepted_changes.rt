@@ -10,14 +10,15 @@ ghost use Rattle.cf_volume_points.specs.At.{Applied, At, StandsEither, StandsLas
 ghost use Rattle.cf_volume_points.specs.Keeping.{FitsBook, IsNextId};
 ghost use Rattle.cf_volume_points.specs.Sound.{IsKeepable};
 ghost use Rattle.cf_table.specs.Changing.{Fits, item_of_change};
-ghost use Rattle.cf_volume.specs.Calls.{Answers, Breaks, IfBroken, IsCause, Runs, StopsOnly};
+ghost use Rattle.cf_volume_changes.specs.Calls.{Answers, Breaks, IfBroken, IsCause, Runs, StopsOnly};
 ghost use Rattle.cf_volume.specs.Written.{IsAtPoint, NotesOnly, WritesAtMost, commit_bytes, contents_in};
 
 use crate::commits::commit_parts;
-use crate::room_commits::{accept_with_room, has_place};
+use crate::room_commits::accept_with_room;
 use crate::stop_causes::stops;
 use crate::volumes::VolumeOn;
 use cf_base::{CallError, Change, Code, Usn};
+use cf_volume_changes::has_place;
 use cf_volume_ground::Ground;
 
 impl<G: Ground> VolumeOn<G> {

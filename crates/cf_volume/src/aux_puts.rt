@@ -1,46 +1,21 @@
 //! Auxiliary records, put and taken out.
 
-ghost use Rattle.std.specs.Prelude.{◌≡◌, ◌≤◌, ◌<◌, ◌^◌, ℕ, All, List, Some, length, option_copied, IfOk, OnOk};
+ghost use Rattle.std.specs.Prelude.{◌≡◌, ◌≤◌, ℕ, All, List, Some, length, option_copied, OnOk};
 ghost use Rattle.cf_disk.specs.Disk.{size_of};
-ghost use Rattle.cf_volume_image.specs.Contents.{record_at};
 ghost use Rattle.cf_volume_image.specs.RecordLists.{IsShort};
 ghost use Rattle.cf_model.specs.Books.{Book};
 ghost use Rattle.cf_model.specs.Formats.{with_record, with_records, without_record};
 ghost use Rattle.cf_model.specs.State.{Volume};
 ghost use Rattle.cf_volume_points.specs.At.{At};
-ghost use Rattle.cf_volume.specs.AuxPuts.{IsAuxKept, IsAuxPut, len_if};
-ghost use Rattle.cf_volume.specs.Calls.{HasRecords, put_record};
-ghost use Rattle.cf_volume.specs.Notes.{KnowKeys};
-ghost use Rattle.cf_volume.specs.Steady.{Steady, known_of};
+ghost use Rattle.cf_volume_changes.specs.AuxPuts.{IsAuxKept, IsAuxPut};
+ghost use Rattle.cf_volume_changes.specs.Calls.{HasRecords, put_record};
+ghost use Rattle.cf_volume_changes.specs.Steady.{Steady, known_of};
 
-use crate::parts::Parts;
-use crate::record_notes::{copied, note_record};
-use crate::room::changes::is_full_now;
-use crate::room::lengths::is_too_long;
-use cf_base::{AuxRecord, Blob, CallError, Code, OutOfMemory};
+use cf_base::{AuxRecord, CallError, Code};
+use cf_volume_changes::{
+    Parts, is_full_now, is_too_long, len_at, note_record, put_each, record_of,
+};
 use cf_volume_ground::Ground;
-use cf_volume_image::AuxRecords;
-use std::alloc::Global;
-
-/// How many bytes spell the record with a key, and 0 where there is none.
-pub(crate) fn len_at(records: &AuxRecords, key: &[u8]) -> u128
-    ensures len { result ≡ len_if (record_at records.now key.now) }
-    ensures small { result < 2 ^ 80 }
-{
-    match records.get(key) {
-        None => 0,
-        Some(aux) => 3 + aux.key.as_slice().len() as u128 + aux.value.as_slice().len() as u128,
-    }
-}
-
-fn record_of(alloc: Global, key: &[u8], value: &[u8]) -> Result<AuxRecord, OutOfMemory>
-    ensures { IfOk result (λ r. r ≡ record { key = key.now; value = value.now }) }
-{
-    Ok(AuxRecord {
-        key: Blob::from_slice(alloc, key)?,
-        value: Blob::from_slice(alloc, value)?,
-    })
-}
 
 /// Puts an auxiliary record in place of the one with its key, unless the table would be full.
 pub(crate) fn set_record<G: Ground>(
@@ -127,25 +102,6 @@ pub(crate) fn put_aux<G: Ground>(
     }
 }
 
-// Puts records in order, each noted as it was at the last point.
-fn put_each(
-    alloc: Global,
-    then: &mut AuxRecords,
-    made: &mut AuxRecords,
-    records: &mut AuxRecords,
-    list: &[AuxRecord],
-) -> Result<(), OutOfMemory>
-    requires { All IsShort list.now }
-    ensures records { OnOk result (records.new ≡ with_records list.now records.old) }
-    ensures known { OnOk result (KnowKeys records.old then.old made.old records.new then.new made.new) }
-{
-    for aux in list {
-        note_record(alloc, then, made, records, aux.key.as_slice())?;
-        records.put(copied(aux)?)?;
-    }
-    Ok(())
-}
-
 /// Puts auxiliary records in order, each in place of the one with its key, unless the table would be full with all of them.
 pub(crate) fn put_all<G: Ground>(
     ground: &G,
@@ -160,7 +116,7 @@ pub(crate) fn put_all<G: Ground>(
     ensures steady { OnOk result (Steady (size_of (G.state ground.now)) (known_of parts.new)) }
     ensures broken { parts.new.broken ≡ parts.old.broken }
 {
-    if is_full_now(ground, parts, list)? {
+    if is_full_now(parts, list)? {
         return Err(CallError::No(Code::TableFull));
     }
     put_each(

@@ -8,13 +8,13 @@ ghost use Rattle.cf_model.specs.Items.{Item, item_of};
 ghost use Rattle.cf_model.specs.State.{Volume as model};
 ghost use Rattle.cf_volume_points.specs.At.{At};
 ghost use Rattle.cf_table.specs.Tables.{row_of};
-ghost use Rattle.cf_volume.specs.Calls.{Breaks, HasRecords, IfBroken, IsMemory, WhyAux, put_record};
+ghost use Rattle.cf_volume_changes.specs.Calls.{Breaks, HasRecords, IfBroken, IsMemory, WhyAux, put_record};
 ghost use Rattle.cf_volume.specs.Written.{NotesOnly};
 
 use crate::aux_puts::{put_all, put_aux};
-use crate::row_notes::{anchor_row, touch_row};
 use crate::volumes::VolumeOn;
 use cf_base::{AuxRecord, CallError, Code, ItemId};
+use cf_volume_changes::{anchor_row, touch_row};
 use cf_volume_ground::Ground;
 
 impl<G: Ground> VolumeOn<G> {

@@ -1,47 +1,21 @@
 //! Commits.
 
-ghost use Rattle.std.specs.Prelude.{◌≡◌, [], IfErr, IfOk, OnOk};
+ghost use Rattle.std.specs.Prelude.{◌≡◌, IfErr, OnOk};
 ghost use Rattle.cf_disk.specs.Disk.{Counts, Leaves, size_of};
 ghost use Rattle.cf_model.specs.Points.{with_room_point, with_sure_point};
 ghost use Rattle.cf_model.specs.State.{Volume};
 ghost use Rattle.cf_volume_points.specs.At.{At, StandsEither};
 ghost use Rattle.cf_volume_points.specs.Sound.{IsKeepable};
 ghost use Rattle.cf_volume.specs.Accepted.{StaysSteady};
-ghost use Rattle.cf_volume.specs.Calls.{IsCause, Runs, StopsOnly};
-ghost use Rattle.cf_volume.specs.Notes.{NotesNothing};
-ghost use Rattle.cf_volume.specs.Steady.{Steady, known_of};
+ghost use Rattle.cf_volume_changes.specs.Calls.{IsCause, Runs, StopsOnly};
+ghost use Rattle.cf_volume_changes.specs.Steady.{Steady, known_of};
 ghost use Rattle.cf_volume.specs.Written.{IsAtPoint, WritesAtMost, commit_bytes};
 
-use crate::parts::Parts;
 use crate::stop_causes::fail_of;
 use crate::written_rows::can_be_written;
-use cf_base::{CallError, Code, ItemId, OutOfMemory};
-use cf_table::{ROOT, Rows};
-use cf_volume_commit::Earlier;
+use cf_base::{CallError, Code};
+use cf_volume_changes::{Parts, nothing_noted};
 use cf_volume_ground::Ground;
-use cf_volume_image::AuxRecords;
-use std::alloc::Global;
-
-/// A table without a row.
-pub(crate) fn no_rows(alloc: Global) -> Result<Rows, OutOfMemory>
-    ensures { IfOk result (λ t. t.rows ≡ []) }
-{
-    let mut rows = Rows::new(alloc)?;
-    rows.remove_row(ROOT);
-    Ok(rows)
-}
-
-/// What is noted where nothing has changed since the last point. `next` is the id that the next item gets.
-pub(crate) fn nothing_noted(alloc: Global, next: ItemId) -> Result<Earlier, OutOfMemory>
-    ensures { IfOk result (NotesNothing next) }
-{
-    Ok(Earlier {
-        rows: no_rows(alloc)?,
-        next,
-        records: AuxRecords::new(alloc),
-        made: AuxRecords::new(alloc),
-    })
-}
 
 /// Makes all that the volume says durable, which is the last point then. NotAVolume where it cannot be written.
 pub(crate) fn commit_parts<G: Ground>(ground: &mut G, parts: &mut Parts) -> Result<(), CallError>

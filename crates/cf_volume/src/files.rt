@@ -6,7 +6,7 @@ ghost use Rattle.cf_model.specs.Items.{Item, item_of};
 ghost use Rattle.cf_model.specs.State.{Volume as model};
 ghost use Rattle.cf_volume_points.specs.At.{At, StandsLast};
 ghost use Rattle.cf_table.specs.Tables.{row_of};
-ghost use Rattle.cf_volume.specs.Calls.{Breaks, IfBroken, IsCause, IsHere, Runs, StopsOnly};
+ghost use Rattle.cf_volume_changes.specs.Calls.{Breaks, IfBroken, IsCause, IsHere, Runs, StopsOnly};
 ghost use Rattle.cf_volume.specs.Written.{contents_in};
 
 use crate::block_reads::read_item;

@@ -1,30 +1,13 @@
-//! Whether a change is refused for want of clusters, and whether it waits for a commit.
+//! Whether a change waits for a commit.
 
-ghost use Rattle.std.specs.Prelude.{◌≡◌, ◌≤◌, ◌<◌, ◌+◌, ◌^◌, ℕ, true, false, Some, nat_lt, IfOk};
-ghost use Rattle.cf_clusters.specs.Roles.{how_many, is_free, is_now};
-ghost use Rattle.cf_volume.specs.Steady.{known_of};
-ghost use Rattle.cf_volume.specs.Waits.{IsLight, MayWait, passes};
+ghost use Rattle.std.specs.Prelude.{◌≡◌, ◌≤◌, ℕ, true, false, Some, IfOk};
+ghost use Rattle.cf_clusters.specs.Roles.{how_many, is_free};
+ghost use Rattle.cf_volume_changes.specs.Steady.{known_of};
+ghost use Rattle.cf_volume_changes.specs.Waits.{IsLight, MayWait};
 
-use crate::parts::Parts;
 use cf_base::OutOfMemory;
+use cf_volume_changes::{Parts, is_heavy};
 use cf_volume_ground::Ground;
-
-/// Whether the state would hold more clusters than the volume may use with so many more, and there are more.
-pub(crate) fn is_full(parts: &Parts, more: u128) -> bool
-    requires { more < 2 ^ 80 }
-    ensures { result ≡ passes parts.now.limit (how_many is_now parts.now.held) more }
-{
-    more > 0 && parts.held.used() as u128 + more > parts.limit as u128
-}
-
-// Whether blocks are put which, with the clusters of the last point and what changes put since, pass the limit.
-fn is_heavy(parts: &Parts, blocks: usize) -> bool
-    ensures heavy { result ≡ true → MayWait (known_of parts.now) blocks }
-    ensures light { result ≡ false → IsLight (known_of parts.now) blocks }
-{
-    let put = parts.put_since as u128 + blocks as u128;
-    blocks > 0 && parts.used_then as u128 + put > parts.limit as u128
-}
 
 /// Whether a change that puts so many blocks waits for a commit. Where the ground wants a commit after no count of changes, a
 /// change waits that has too few free clusters. Where the ground wants one, a change waits at that count alone, and only if

@@ -1,47 +1,21 @@
 //! Changes of items that are not there, put: they are counted, and change no item.
 
-ghost use Rattle.std.specs.Prelude.{◌≡◌, ◌<◌, ◌+◌, ◌^◌, [], None, length, true, IfErr, OnOk, OnErr};
+ghost use Rattle.std.specs.Prelude.{◌≡◌, ◌<◌, None, true, IfErr, OnOk, OnErr};
 ghost use Rattle.cf_base.specs.declared.limits.TheConstants.{MOST_NUMBER};
-ghost use Rattle.cf_volume_blocks.specs.Bytes.{puts_in};
 ghost use Rattle.cf_disk.specs.Disk.{size_of};
-ghost use Rattle.cf_model.specs.Blocks.{blocks_of};
 ghost use Rattle.cf_model.specs.State.{Volume};
 ghost use Rattle.cf_volume_points.specs.At.{At};
 ghost use Rattle.cf_table.specs.Changing.{item_of_change, stays};
 ghost use Rattle.cf_table.specs.Tables.{row_of};
 ghost use Rattle.cf_volume.specs.Accepted.{FollowsAim};
-ghost use Rattle.cf_volume.specs.Calls.{IsCause, IsKept, IsPut};
-ghost use Rattle.cf_volume.specs.Steady.{Steady, known_of};
+ghost use Rattle.cf_volume_changes.specs.Calls.{IsCause, IsKept, IsPut};
+ghost use Rattle.cf_volume_changes.specs.Steady.{Steady, known_of};
 ghost use Rattle.cf_volume.specs.Written.{NotesOnly};
 
-use crate::fullness::{is_full, waits_for_room};
-use crate::parts::Parts;
+use crate::fullness::waits_for_room;
 use cf_base::{CallError, Change, Code, Usn};
+use cf_volume_changes::{Parts, clusters_asked, is_full};
 use cf_volume_ground::Ground;
-
-// How many blocks so many bytes touch from the start of a file on.
-fn block_count(bytes: u128) -> u128
-    requires { bytes < 2 ^ 65 }
-    ensures counted { result ≡ length (blocks_of 0 bytes) }
-    ensures small { result < 2 ^ 54 }
-{
-    bytes.div_ceil(4096)
-}
-
-/// How many clusters the change would need in an empty file.
-pub(crate) fn clusters_asked(change: &Change) -> u128
-    requires { stays change.now ≡ true }
-    ensures asked { result ≡ length (puts_in change.now []) }
-    ensures small { result < 2 ^ 54 }
-{
-    match change {
-        Change::Write { at, bytes, .. } => {
-            block_count(*at as u128 + bytes.as_slice().len() as u128)
-        }
-        Change::Size { size, .. } => block_count(*size as u128),
-        _ => 0,
-    }
-}
 
 /// Puts a change of an item that is not there, and gives its number. It is refused and waits as one of an empty file does.
 /// None where it waits for a commit; then nothing is done.

@@ -1,4 +1,3 @@
 //! Changes that remove an item.
 
 pub(crate) mod items;
-pub(crate) mod rows;

@@ -7,18 +7,17 @@ ghost use Rattle.cf_model.specs.Formats.{Image};
 ghost use Rattle.cf_model.specs.Numbers.{most};
 ghost use Rattle.cf_model.specs.State.{Point, Volume as model};
 ghost use Rattle.cf_table.specs.Tables.{AreTableRows};
-ghost use Rattle.cf_volume.specs.Calls.{IsRefused, StopsOnly};
+ghost use Rattle.cf_volume_changes.specs.Calls.{IsRefused, StopsOnly};
 ghost use Rattle.cf_volume.specs.Rewinding.{IsLast, Rewinds};
-ghost use Rattle.cf_volume.specs.Steady.{Steady, known_of};
+ghost use Rattle.cf_volume_changes.specs.Steady.{Steady, known_of};
 ghost use Rattle.cf_volume_commit.specs.Loaded as loaded;
 ghost use Rattle.cf_volume_points.specs.At.{At};
 ghost use Rattle.cf_volume_points.specs.Standing.{opened};
 
-use crate::last_points::{restore_records, restore_rows};
-use crate::parts::Parts;
 use crate::volumes::VolumeOn;
 use cf_base::{CallError, Code, Usn};
 use cf_clusters::Data;
+use cf_volume_changes::{Parts, restore_records, restore_rows};
 use cf_volume_commit::{Parts as Opened, data_of};
 use cf_volume_ground::Ground;
 

@@ -1,6 +1,6 @@
 //! Changes put by their kind, with a commit before one that needs room.
 
-ghost use Rattle.std.specs.Prelude.{◌≡◌, ◌≤◌, ◌<◌, ◌+◌, ◌∷◌, [], None, false, true, IfErr, IfOk, IsFalse, IsTrue, OnOk, OnErr};
+ghost use Rattle.std.specs.Prelude.{◌≡◌, ◌≤◌, ◌<◌, ◌+◌, ◌∷◌, [], None, false, true, IfErr, IfOk, OnOk, OnErr};
 ghost use Rattle.cf_base.specs.declared.limits.TheConstants.{MOST_NUMBER};
 ghost use Rattle.cf_disk.specs.Disk.{Leaves, size_of};
 ghost use Rattle.cf_model.specs.Changes.{may_need_room, put_change, why_no_room};
@@ -13,33 +13,20 @@ ghost use Rattle.cf_volume_points.specs.Keeping.{FitsBook, IsNextId};
 ghost use Rattle.cf_volume_points.specs.Sound.{IsKeepable};
 ghost use Rattle.cf_table.specs.Changing.{Fits, item_of_change, stays};
 ghost use Rattle.cf_volume.specs.Accepted.{FollowsAim, IsDone, IsJudged, StaysSteady};
-ghost use Rattle.cf_volume.specs.Calls.{Answers, IsCause, IsKept, Runs, StopsOnly};
-ghost use Rattle.cf_volume.specs.Steady.{Steady, known_of};
+ghost use Rattle.cf_volume_changes.specs.Calls.{Answers, IsCause, IsKept, Runs, StopsOnly};
+ghost use Rattle.cf_volume_changes.specs.Steady.{Steady, known_of};
 ghost use Rattle.cf_volume.specs.Written.{NotesOnly, WritesAtMost, commit_bytes};
 
 use crate::commits::commit_parts;
 use crate::copy::files::put_copy;
 use crate::make::new_items::put_make;
-use crate::parts::Parts;
 use crate::record_changes::put_absent;
 use crate::remove::items::put_remove;
-use crate::row_notes::is_there;
 use crate::stay::items::put_stay;
 use cf_base::{CallError, Change, Code, Usn};
 use cf_table::item_of;
+use cf_volume_changes::{Parts, is_there};
 use cf_volume_ground::Ground;
-use cf_volume_image::Contents;
-
-/// The greatest place of an epoch.
-const MOST: u32 = 4_294_967_295;
-
-/// Whether a place is left for one more change.
-pub(crate) fn has_place(contents: &Contents) -> bool
-    ensures yes { IsTrue result → contents.now.last.place < MOST_NUMBER }
-    ensures no { IsFalse result → MOST_NUMBER ≤ contents.now.last.place }
-{
-    contents.last.place < MOST
-}
 
 // Puts a change of an item that is no new one, and stays.
 fn put_in_place<G: Ground>(

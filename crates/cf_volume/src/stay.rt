@@ -2,9 +2,6 @@
 
 pub(crate) mod blocks;
 pub(crate) mod clusters;
-pub(crate) mod emptied_blocks;
 pub(crate) mod items;
-pub(crate) mod limits;
 pub(crate) mod plan_steps;
-pub(crate) mod plans;
 pub(crate) mod rows;

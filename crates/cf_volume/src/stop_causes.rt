@@ -1,7 +1,7 @@
 //! Why calls of a volume stop.
 
 ghost use Rattle.std.specs.Prelude.{◌≡◌};
-ghost use Rattle.cf_volume.specs.Calls.{IsStopping, fail_of};
+ghost use Rattle.cf_volume_changes.specs.Calls.{IsStopping, fail_of};
 
 use cf_base::{CallError, Code};
 use cf_volume_points::Stop;

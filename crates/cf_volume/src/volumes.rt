@@ -7,10 +7,10 @@ ghost use Rattle.cf_volume_image.specs.Contents.{record_at};
 ghost use Rattle.cf_volume_image.specs.RecordLists.{comes_after};
 ghost use Rattle.cf_table.specs.Tables.{row_of};
 
-use crate::parts::Parts;
 use cf_base::{AuxRecord, ItemId};
 use cf_disk::Disk;
 use cf_table::{Row, Rows};
+use cf_volume_changes::Parts;
 use cf_volume_ground::{DiskGround, Ground};
 use cf_volume_image::AuxRecords;
 use std::marker::Model;
@@ -29,8 +29,8 @@ pub type Volume<D> = VolumeOn<DiskGround<D>>;
 impl<G: Ground> Model for VolumeOn<G> {
     ghost use Rattle.std.specs.Prelude.{◌≡◌, false};
     ghost use Rattle.cf_disk.specs.Disk.{size_of};
-    ghost use Rattle.cf_volume.specs.Calls.{OnDisk};
-    ghost use Rattle.cf_volume.specs.Steady.{Steady, known_of};
+    ghost use Rattle.cf_volume_changes.specs.Calls.{OnDisk};
+    ghost use Rattle.cf_volume_changes.specs.Steady.{Steady, known_of};
 
     ghost Value = { OnDisk G };
 

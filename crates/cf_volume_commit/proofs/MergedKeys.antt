@@ -5,31 +5,17 @@ use Rattle.std.specs.List.{list_any}
 use Rattle.std.proofs.lemmas.Bool.{true≢false}
 use Rattle.std.proofs.lemmas.List.{drop_all}
 use Rattle.cf_base.specs.declared.answers.AuxRecord.{AuxRecord}
-use Rattle.cf_volume_commit.proofs.NamedKeys.{any_found, filter_records, has_filtered, keys_of}
+use Rattle.cf_volume_commit.proofs.NamedKeys.{any_found, has_filtered, keys_of}
 use Rattle.cf_volume_commit.specs.Differing.{AddsKeys, changed_keys, is_record_changed}
-use Rattle.cf_volume_commit.specs.declared.earlier.Earlier.{Earlier}
+use Rattle.cf_volume_points.specs.declared.earlier.Earlier.{Earlier}
 use Rattle.cf_volume_image.proofs.Keys.{before_not_same, else_before, goes_on_before, same_back}
 use Rattle.cf_volume_image.specs.Contents.{record_at}
 use Rattle.cf_volume_image.specs.Enough.{has_key}
 use Rattle.cf_volume_image.specs.Spelled.{AreKeysFrom, AreRecordsFrom}
-use Rattle.cf_model.specs.Formats.{with_record, without_record}
+use Rattle.cf_model.specs.Formats.{with_record}
 use Rattle.cf_model.specs.Words.{comes_before, same}
-use Rattle.cf_volume_points.proofs.Found.{found_left, found_put}
+use Rattle.cf_volume_points.proofs.Lookups.{at_with, filter_records}
 use Rattle.cf_table.proofs.NamedEntries.{same_is, same_itself}
-
--- look-ups after a record was put or taken out
-
-pub at_without : (k key : List ℕ) (c : Bool) (xs : List AuxRecord) → same k key ≡ c → record_at (without_record k xs) key ≡ cond c None (record_at xs key)
-at_without k key c xs e = found_left (λ x. same x.key key) (λ x. same x.key k) c xs (λ x h. ap (λ (l : List ℕ). same l k) (same_is x.key key h) ∙ same_back key k ∙ e)
-
-pub at_with : (r : AuxRecord) (key : List ℕ) (c : Bool) (xs : List AuxRecord) → same r.key key ≡ c → record_at (with_record r xs) key ≡ cond c (Some r) (record_at xs key)
-at_with r key c xs e =
-    found_put (λ x. same x.key key) (λ x y. comes_before x.key y.key) r (without_record r.key xs) (λ h. at_without r.key key true xs h)
-    ∙ ap (λ (t : Bool). cond t (Some r) (record_at (without_record r.key xs) key)) e ∙ by c e
-  where
-    by : (t : Bool) → same r.key key ≡ t → cond t (Some r) (record_at (without_record r.key xs) key) ≡ cond t (Some r) (record_at xs key)
-    by true h = refl
-    by false h = at_without r.key key false xs h
 
 -- keys put among others
 

@@ -5,14 +5,14 @@ use Rattle.std.specs.List.{list_any}
 use Rattle.std.proofs.lemmas.Bool.{cond-true, cond-false}
 use Rattle.std.proofs.lemmas.List.Elements.{All-head, All-tail, All-nil, All-cons, All-weaker}
 use Rattle.cf_base.specs.declared.answers.AuxRecord.{AuxRecord}
-use Rattle.cf_volume_commit.proofs.NamedRows.{none_and}
+use Rattle.cf_volume_points.proofs.Lookups.{none_and, weaker_after}
 use Rattle.cf_volume_commit.specs.Differing.{IsThen, changed_keys, is_record_changed, removed_keys}
-use Rattle.cf_volume_commit.specs.declared.earlier.Earlier.{Earlier}
-use Rattle.cf_volume_image.proofs.Keys.{before_not_same, goes_on_before}
+use Rattle.cf_volume_points.specs.declared.earlier.Earlier.{Earlier}
+use Rattle.cf_volume_image.proofs.Keys.{before_not_same}
 use Rattle.cf_volume_image.proofs.RecordsLeft.{records_left, rise_is}
 use Rattle.cf_volume_image.specs.Contents.{in_front, record_at, records_at}
 use Rattle.cf_volume_image.specs.Enough.{has_key, record_left}
-use Rattle.cf_volume_image.specs.Spelled.{AreKeysFrom, AreRecordsFrom, IsAfter}
+use Rattle.cf_volume_image.specs.Spelled.{AreKeysFrom, AreRecordsFrom}
 use Rattle.cf_volume_image.specs.States.{without_records}
 use Rattle.cf_volume_image.specs.declared.contents.Contents.{Contents}
 use Rattle.cf_model.specs.Formats.{Image, with_records}
@@ -79,10 +79,6 @@ Found rs r = record_at rs r.key ≡ Some r
 abbrev After : List ℕ → AuxRecord → Type 0
 After key r = same key r.key ≡ false
 
-weaker_after : (before key : List ℕ) (rs : List AuxRecord) → IsAfter (Some before) key → AreRecordsFrom (Some key) rs → AreRecordsFrom (Some before) rs
-weaker_after before key [] a h = tt
-weaker_after before key (r ∷ rs) a h = (((h.0.0.0, goes_on_before before key r.key a h.0.0.1), h.0.1), h.1)
-
 all_after : (key : List ℕ) (rs : List AuxRecord) → AreRecordsFrom (Some key) rs → All (After key) rs
 all_after key [] h = All-nil (After key)
 all_after key (r ∷ rs) h = All-cons (After key) r rs (before_not_same key r.key h.0.0.1) (all_after key rs (weaker_after key r.key rs h.0.0.1 h.1))
@@ -111,21 +107,6 @@ records_of_those rs p (x ∷ xs) h = by (p x) (records_of_those rs p xs (All-tai
 
 pub records_named : (then : Earlier) (rs : List AuxRecord) → AreRecordsFrom None rs → records_at rs (changed_keys then rs) ≡ filter (is_record_changed then) rs
 records_named then rs rise = records_of_those rs (is_record_changed then) rs (all_found None rs rise)
-
--- what is left of records in order is in order
-
-weaker : (before : Option (List ℕ)) (key : List ℕ) (rs : List AuxRecord) → IsAfter before key → AreRecordsFrom (Some key) rs → AreRecordsFrom before rs
-weaker None key [] a h = tt
-weaker None key (r ∷ rs) a h = (((h.0.0.0, tt), h.0.1), h.1)
-weaker (Some before) key rs a h = weaker_after before key rs a h
-
-pub filter_records : (p : AuxRecord → Bool) (before : Option (List ℕ)) (rs : List AuxRecord) → AreRecordsFrom before rs → AreRecordsFrom before (filter p rs)
-filter_records p before [] h = tt
-filter_records p before (r ∷ rs) h = by (p r) (filter_records p (Some r.key) rs h.1)
-  where
-    by : (t : Bool) → AreRecordsFrom (Some r.key) (filter p rs) → AreRecordsFrom before (cond t (r ∷ filter p rs) (filter p rs))
-    by true rest = (h.0, rest)
-    by false rest = weaker before r.key (filter p rs) h.0.0.1 rest
 
 pub keys_of : (before : Option (List ℕ)) (rs : List AuxRecord) → AreRecordsFrom before rs → AreKeysFrom before (map (λ (r : AuxRecord). r.key) rs)
 keys_of before [] h = tt

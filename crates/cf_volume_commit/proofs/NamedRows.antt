@@ -1,11 +1,11 @@
 -- A payload names each row that differs, and the rows that it has are those.
 use Rattle.std.proofs.Common.{◌≡◌, ℕ, ◌+◌, ◌<◌, ◌≤◌, Bool, true, false, ◌||◌, ◌&&◌, not, cond, eqb, ltb, List, [], ◌∷◌, map, Option, Some, None, refl, sym, ◌∙◌, ap, arith}
 use Rattle.std.specs.Prelude.{All, filter, is_some, option_map}
-use Rattle.std.proofs.lemmas.Bool.{cond-true, cond-false, eq-eqb, eqb-true, ne_eqb}
+use Rattle.std.proofs.lemmas.Bool.{cond-true, cond-false, eq-eqb, ne_eqb}
 use Rattle.std.proofs.lemmas.List.Elements.{All-head, All-tail, All-nil, All-cons, All-weaker}
 use Rattle.cf_base.specs.declared.ids.ItemId.{ItemId}
 use Rattle.cf_volume_commit.specs.Differing.{IsThen, changed_rows, is_row_changed, removed_rows}
-use Rattle.cf_volume_commit.specs.declared.earlier.Earlier.{Earlier}
+use Rattle.cf_volume_points.specs.declared.earlier.Earlier.{Earlier}
 use Rattle.cf_volume_image.proofs.RowsLeft.{Rises, rises_is, rows_left}
 use Rattle.cf_volume_image.specs.Contents.{in_front, row_at, rows_at}
 use Rattle.cf_volume_image.specs.Enough.{has_id, row_left}
@@ -14,6 +14,7 @@ use Rattle.cf_volume_image.specs.declared.contents.Contents.{Contents}
 use Rattle.cf_model.specs.Formats.{Image, with_rows}
 use Rattle.cf_model.specs.Rows as model
 use Rattle.cf_volume_points.proofs.KeptSound.{rows_found}
+use Rattle.cf_volume_points.proofs.Lookups.{has_filtered}
 use Rattle.cf_volume_points.specs.Known.{RowsRise, or_now}
 use Rattle.cf_table.specs.Spelling.{row_value}
 use Rattle.cf_table.specs.Tables.{RisesFrom, row_of}
@@ -22,30 +23,6 @@ use Rattle.cf_table.specs.declared.rows.Row.{Row}
 pub rise_so : (low : ℕ) (rows : List model.Row) → RowsRise low rows → Rises low rows
 rise_so low [] h = tt
 rise_so low (r ∷ rs) h = (h.0, rise_so (r.id.0 + 1) rs h.1)
-
-pub same_id : (a b : ItemId) → a.0 ≡ b.0 → a ≡ b
-same_id a b h = ap (λ (n : ℕ). record { 0 = n }) h
-
-pub none_and : (a : Bool) → (a && false) ≡ false
-none_and true = refl
-none_and false = refl
-
--- the ids of rows that pass a test on ids
-pub has_filtered : (q : ItemId → Bool) (rows : List Row) (id : ItemId) → has_id (map (λ (r : Row). r.id) (filter (λ (r : Row). q r.id) rows)) id ≡ (is_some (row_of rows id) && q id)
-has_filtered q [] id = refl
-has_filtered q (x ∷ xs) id = by (eqb x.id.0 id.0) refl (q x.id) refl (has_filtered q xs id)
-  where
-    rest : List ItemId
-    rest = map (λ (r : Row). r.id) (filter (λ (r : Row). q r.id) xs)
-
-    by : (t : Bool) → eqb x.id.0 id.0 ≡ t → (u : Bool) → q x.id ≡ u → has_id rest id ≡ (is_some (row_of xs id) && q id)
-        → has_id (map (λ (r : Row). r.id) (cond u (x ∷ filter (λ (r : Row). q r.id) xs) (filter (λ (r : Row). q r.id) xs))) id ≡ (is_some (cond t (Some x) (row_of xs id)) && q id)
-    by true p true w h = ap (λ (b : Bool). b || has_id rest id) p ∙ sym (ap q (same_id id x.id (sym (eqb-true x.id.0 id.0 p))) ∙ w)
-    by true p false w h =
-        let gone : q id ≡ false = ap q (same_id id x.id (sym (eqb-true x.id.0 id.0 p))) ∙ w in
-        h ∙ ap (λ (b : Bool). is_some (row_of xs id) && b) gone ∙ none_and (is_some (row_of xs id)) ∙ sym gone
-    by false p true w h = ap (λ (b : Bool). b || has_id rest id) p ∙ h
-    by false p false w h = h
 
 -- what the row is with the payload, by what it was and is
 picked : (now then : Option Row) (t : Bool) → cond ((is_some now && (not t || is_some then)) && is_some (option_map row_value now)) (option_map row_value now)

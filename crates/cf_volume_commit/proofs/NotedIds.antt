@@ -8,9 +8,9 @@ use Rattle.std.proofs.lemmas.List.{length-drop, take_all}
 use Rattle.std.proofs.lemmas.List.Elements.{All-head, All-tail, All-nil, All-cons}
 use Rattle.std.proofs.lemmas.List.Folds.{list_any-append}
 use Rattle.cf_base.specs.declared.ids.ItemId.{ItemId}
-use Rattle.cf_volume_commit.proofs.NamedRows.{has_filtered, same_id}
+use Rattle.cf_volume_points.proofs.Lookups.{has_filtered, same_id}
 use Rattle.cf_volume_commit.specs.Differing.{changed_rows, is_new, is_row_changed, is_row_left, rows_left}
-use Rattle.cf_volume_commit.specs.declared.earlier.Earlier.{Earlier}
+use Rattle.cf_volume_points.specs.declared.earlier.Earlier.{Earlier}
 use Rattle.cf_volume_image.specs.Enough.{has_id}
 use Rattle.cf_table.proofs.Searched.{from_low}
 use Rattle.cf_table.specs.Tables.{RisesFrom, row_of}

@@ -5,11 +5,12 @@ use Rattle.std.proofs.lemmas.Bool.{ltb-true, true≢false}
 use Rattle.std.proofs.lemmas.List.{length-map}
 use Rattle.cf_base.specs.declared.answers.AuxRecord.{AuxRecord}
 use Rattle.cf_base.specs.declared.ids.ItemId.{ItemId}
-use Rattle.cf_volume_commit.proofs.NamedKeys.{filter_records, keys_of, records_after, records_named}
+use Rattle.cf_volume_commit.proofs.NamedKeys.{keys_of, records_after, records_named}
+use Rattle.cf_volume_points.proofs.Lookups.{filter_records}
 use Rattle.cf_volume_commit.proofs.NamedRows.{rows_after, rows_named}
 use Rattle.cf_volume_commit.specs.Differing.{IsThen, changed_keys, changed_rows, is_record_changed, is_record_gone, is_row_changed, is_row_gone, is_short_payload, payload_now, removed_keys, removed_rows, text_of}
 use Rattle.cf_volume_commit.specs.Leading.{LeadsTo}
-use Rattle.cf_volume_commit.specs.declared.earlier.Earlier.{Earlier}
+use Rattle.cf_volume_points.specs.declared.earlier.Earlier.{Earlier}
 use Rattle.cf_volume_image.specs.Contents.{header_of, image_of}
 use Rattle.cf_volume_image.specs.Spelled.{AreIdsFrom, AreRecordsFrom, IsImage, IsPayload}
 use Rattle.cf_volume_image.specs.States.{IsAfter}

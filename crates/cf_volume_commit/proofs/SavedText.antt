@@ -2,12 +2,13 @@
 use Rattle.std.proofs.Common.{◌≡◌, ℕ, ◌^◌, ◌<◌, ◌≤◌, List, length, Option, None, sym, subst}
 use Rattle.std.specs.Prelude.{All, Err, IsErr, Ok, OnOk, Result, ◌+◌}
 use Rattle.std.proofs.lemmas.Bool.{true≢false}
-use Rattle.cf_volume_commit.proofs.NamedKeys.{filter_records, keys_of, keys_short}
+use Rattle.cf_volume_commit.proofs.NamedKeys.{keys_of, keys_short}
+use Rattle.cf_volume_points.proofs.Lookups.{filter_records}
 use Rattle.cf_volume_commit.proofs.PayloadFits.{text_leads}
 use Rattle.cf_volume_commit.specs.Differing.{IsThen, is_record_gone, removed_keys, text_of}
 use Rattle.cf_volume_commit.specs.Leading.{Follows, LeadsTo, bytes_written}
 use Rattle.cf_disk.specs.Disk.{Counts, State, capped}
-use Rattle.cf_volume_commit.specs.declared.earlier.Earlier.{Earlier}
+use Rattle.cf_volume_points.specs.declared.earlier.Earlier.{Earlier}
 use Rattle.cf_volume_image.specs.Contents.{image_of}
 use Rattle.cf_volume_image.specs.Spelled.{AreRecordsFrom, IsImage}
 use Rattle.cf_volume_image.specs.States.{TellsIn}

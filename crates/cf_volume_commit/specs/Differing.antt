@@ -2,7 +2,7 @@
 use Rattle.std.specs.Prelude.{ℕ, Bool, not, List, length, map, filter, nat_lt, option_map, is_some, cond, Option, Some, None, ◌≡◌, ◌&&◌, ◌||◌}
 use Rattle.cf_base.specs.declared.answers.AuxRecord.{AuxRecord}
 use Rattle.cf_base.specs.declared.ids.ItemId.{ItemId}
-use Rattle.cf_volume_commit.specs.declared.earlier.Earlier.{Earlier}
+use Rattle.cf_volume_points.specs.declared.earlier.Earlier.{Earlier}
 use Rattle.cf_volume_image.specs.Contents.{payload_of, record_at, row_at}
 use Rattle.cf_volume_image.specs.Spelled.{AreRecordsFrom}
 use Rattle.cf_volume_image.specs.declared.contents.Contents.{Contents}

@@ -8,10 +8,10 @@ ghost use Rattle.cf_volume_image.specs.Spelled.{AreRecordsFrom};
 ghost use Rattle.cf_model.specs.Words.{same};
 ghost use Rattle.cf_table.specs.Tables.{RisesFrom, row_of};
 
-use crate::earlier::{Earlier, bare};
 use cf_base::{AuxRecord, Blob, ItemId, OutOfMemory};
 use cf_table::{Row, Rows};
 use cf_volume_image::{AuxRecords, Contents};
+use cf_volume_points::{Earlier, bare};
 use std::alloc::Global;
 
 fn has_row(rows: &Rows, id: ItemId) -> bool

@@ -9,7 +9,6 @@
 mod creations;
 mod damages;
 mod differences;
-mod earlier;
 mod findings;
 mod openings;
 mod parts;
@@ -17,9 +16,9 @@ mod ranges;
 mod saves;
 mod texts;
 
+pub use cf_volume_points::{Earlier, bare};
 pub use creations::{create, first_contents};
 pub use damages::{Damage, FindError};
-pub use earlier::{Earlier, bare};
 pub use findings::read_volume;
 pub use openings::{data_of, load};
 pub use parts::Parts;

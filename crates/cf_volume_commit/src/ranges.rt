@@ -7,9 +7,9 @@ ghost use Rattle.cf_volume_image.specs.Spelled.{AreRecordsFrom, IsImage};
 ghost use Rattle.cf_table.specs.Reading.{IsUsn};
 ghost use Rattle.cf_table.specs.Tables.{AreTableRows, RisesFrom};
 
-use crate::earlier::Earlier;
 use cf_base::{ItemId, Usn};
 use cf_volume_image::Contents;
+use cf_volume_points::Earlier;
 
 fn fits_8(number: u64)
     ensures { number < 2 ^ 64 }

@@ -17,7 +17,6 @@ ghost use Rattle.cf_volume_points.specs.declared.stops.Stop.TheVariants as stop;
 ghost use Rattle.cf_table.specs.Spelling.{HasRoom};
 
 use crate::differences::what_differs;
-use crate::earlier::Earlier;
 use crate::ranges::{has_an_image, stands_in_order};
 use crate::texts::put_text;
 use cf_base::{Blob, OutOfMemory};
@@ -25,7 +24,7 @@ use cf_clusters::Data;
 use cf_disk::Disk;
 use cf_journal::Journal;
 use cf_volume_image::{Contents, spell_payload};
-use cf_volume_points::Stop;
+use cf_volume_points::{Earlier, Stop};
 use std::alloc::Global;
 
 // The payload of what differs, where its lists are short.

@@ -9,7 +9,7 @@ use Rattle.cf_journal.specs.declared.journals.Journal.{Journal}
 use Rattle.cf_model.specs.Formats.{Image}
 use Rattle.cf_volume_commit.specs.Differing.{IsThen}
 use Rattle.cf_volume_commit.specs.Leading.{HaveStoredPins}
-use Rattle.cf_volume_commit.specs.declared.earlier.Earlier.{Earlier}
+use Rattle.cf_volume_points.specs.declared.earlier.Earlier.{Earlier}
 use Rattle.cf_volume_image.specs.Contents.{image_of}
 use Rattle.cf_volume_image.specs.States.{TellsIn}
 use Rattle.cf_volume_image.specs.declared.contents.Contents.{Contents}

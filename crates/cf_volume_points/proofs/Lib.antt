@@ -19,4 +19,5 @@ pub mod GoneItems
 pub mod Readings
 pub mod RowRoom
 pub mod Found
+pub mod Lookups
 pub mod BookChanges

@@ -11,15 +11,15 @@ ghost use Rattle.cf_ranges.specs.Pairs.{cluster_at};
 ghost use Rattle.cf_table.specs.Applied.{IsSpellable};
 ghost use Rattle.cf_table.specs.Tables.{row_of};
 ghost use Rattle.cf_table.specs.declared.rows.Row.{Row};
-ghost use Rattle.cf_volume.specs.Calls.{Runs};
+ghost use Rattle.cf_volume_changes.specs.Calls.{Runs};
 ghost use Rattle.cf_volume.specs.Copies.{CopiesAll, Duplicates};
 
 use crate::stay::blocks::{load, put_block};
-use crate::written_rows::put_row;
 use cf_base::ItemId;
 use cf_clusters::Data;
 use cf_ranges::ExtentMap;
 use cf_table::{Row, Rows};
+use cf_volume_changes::put_row;
 use cf_volume_ground::Ground;
 use cf_volume_points::Stop;
 

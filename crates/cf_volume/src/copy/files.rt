@@ -21,19 +21,17 @@ ghost use Rattle.cf_table.specs.Means.{IsFresh};
 ghost use Rattle.cf_table.specs.Tables.{row_of};
 ghost use Rattle.cf_table.specs.declared.rows.Row.{Row};
 ghost use Rattle.cf_volume.specs.Accepted.{FollowsAim};
-ghost use Rattle.cf_volume.specs.Calls.{IsCause, IsKept, IsPut, Runs};
-ghost use Rattle.cf_volume.specs.NewRows.{IsCopied, IsCopy};
-ghost use Rattle.cf_volume.specs.Steady.{Steady, known_of};
+ghost use Rattle.cf_volume_changes.specs.Calls.{IsCause, IsKept, IsPut, Runs};
+ghost use Rattle.cf_volume_changes.specs.NewRows.{IsCopied, IsCopy};
+ghost use Rattle.cf_volume_changes.specs.Steady.{Steady, known_of};
 ghost use Rattle.cf_volume.specs.Written.{NotesOnly, WritesAtMost};
 
 use crate::copy::clusters::copy_item;
 use crate::fullness::waits_for_room;
-use crate::make::new_items::refusal_of_new;
-use crate::make::rows::plan_copied;
-use crate::parts::Parts;
 use crate::stop_causes::fail_of;
 use cf_base::{CallError, Change, ItemId, Usn};
 use cf_table::{Row, Rows};
+use cf_volume_changes::{Parts, plan_copied, refusal_of_new};
 use cf_volume_ground::Ground;
 use cf_volume_points::Stop;
 
@@ -120,7 +118,7 @@ fn put_judged<G: Ground>(
 {
     let number = row.number;
     let blocks = block_count(&parts.contents.rows, from);
-    if let Some(code) = refusal_of_new(ground, parts, &row, blocks) {
+    if let Some(code) = refusal_of_new(parts, &row, blocks) {
         drop(row);
         return Err(CallError::No(code));
     }

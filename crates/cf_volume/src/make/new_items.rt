@@ -1,73 +1,28 @@
-//! New items, judged, and those without a byte put.
+//! New items without a byte, put.
 
-ghost use Rattle.std.specs.Prelude.{◌≡◌, ◌≤◌, ◌<◌, ◌+◌, ◌∷◌, [], ℕ, All, length, IfErr, IfNone, IfSome, OnOk, OnErr};
+ghost use Rattle.std.specs.Prelude.{◌≡◌, ◌≤◌, ◌<◌, ◌+◌, [], ℕ, All, IfErr, OnOk, OnErr};
 ghost use Rattle.cf_base.specs.declared.changes.Change.{Change};
 ghost use Rattle.cf_base.specs.declared.limits.TheConstants.{MOST_NUMBER};
 ghost use Rattle.cf_disk.specs.Disk.{size_of};
 ghost use Rattle.cf_model.specs.Blocks.{puts_into};
-ghost use Rattle.cf_model.specs.Changes.{put_change, why_no_room};
 ghost use Rattle.cf_model.specs.Items.{Item};
-ghost use Rattle.cf_model.specs.Numbers.{no_usn};
 ghost use Rattle.cf_model.specs.State.{Volume};
 ghost use Rattle.cf_volume_points.specs.At.{At};
-ghost use Rattle.cf_volume_points.specs.Holding.{FitsTable};
 ghost use Rattle.cf_volume_points.specs.Keeping.{IsNextId};
 ghost use Rattle.cf_table.specs.Applied.{IsSpellable};
 ghost use Rattle.cf_table.specs.Changing.{Fits, item_of_change};
 ghost use Rattle.cf_table.specs.Means.{IsFresh};
 ghost use Rattle.cf_volume.specs.Accepted.{FollowsAim};
-ghost use Rattle.cf_volume.specs.Calls.{IsCause, IsFullness, IsKept, IsPut};
-ghost use Rattle.cf_volume.specs.NewRows.{Arrives, IsMade, IsMake, TestsRow};
-ghost use Rattle.cf_volume.specs.Steady.{Steady, known_of};
+ghost use Rattle.cf_volume_changes.specs.Calls.{IsCause, IsKept, IsPut};
+ghost use Rattle.cf_volume_changes.specs.NewRows.{IsMade, IsMake};
+ghost use Rattle.cf_volume_changes.specs.Steady.{Steady, known_of};
 ghost use Rattle.cf_volume.specs.Written.{NotesOnly};
 
-use crate::fullness::is_full;
-use crate::make::rows::{plan_made, put_made};
-use crate::parts::Parts;
-use crate::room::lengths::{is_too_long, len_of};
-use crate::stay::clusters::tell_stored;
-use cf_base::{CallError, Change, Code, Usn};
+use crate::make::rows::put_made;
+use cf_base::{CallError, Change, Usn};
 use cf_table::Row;
+use cf_volume_changes::{Parts, plan_made, refusal_of_new};
 use cf_volume_ground::Ground;
-use cf_volume_image::Contents;
-
-/// The most rows that a table has.
-const MOST_ROWS: usize = 10_000;
-
-// Whether the table has no room for one more row.
-fn lacks_row(contents: &Contents, row: &Row) -> bool
-    ensures { TestsRow contents.now row.now result }
-{
-    let rows = contents.rows.as_slice();
-    rows.len() >= MOST_ROWS || is_too_long(contents, 0, len_of(row))
-}
-
-/// Why a change would be refused that makes the item of a row and needs so many clusters, where a number is left for it.
-pub(crate) fn refusal_of_new<G: Ground>(
-    ground: &G,
-    parts: &Parts,
-    row: &Row,
-    blocks: usize,
-) -> Option<Code>
-    requires new { All (λ r. r.id.0 < row.now.id.0) parts.now.contents.rows.rows }
-    requires id { row.now.id.0 < 18446744073709551615 }
-    requires anchor { row.now.anchor ≡ no_usn }
-    requires place { parts.now.contents.last.place < MOST_NUMBER }
-    ensures why { (v : Volume) (c : Change) (i : Item) → At (G.state ground.now) (known_of parts.now) v → Arrives c v row.now i → length (puts_into v.items c) ≡ blocks → why_no_room (c ∷ []) v ≡ result }
-    ensures fits { IfNone result ((v : Volume) (c : Change) (i : Item) → At (G.state ground.now) (known_of parts.now) v → Arrives c v row.now i → FitsTable (put_change c v).items (put_change c v).book) }
-    ensures only { IfSome result IsFullness }
-{
-    let _ = ground;
-    let _ = parts.contents.rows.image_len();
-    let _ = tell_stored(row);
-    if lacks_row(&parts.contents, row) {
-        return Some(Code::TableFull);
-    }
-    if is_full(parts, blocks as u128) {
-        return Some(Code::Full);
-    }
-    None
-}
 
 // Puts the row of a new item without a byte, unless the change is refused, and gives its number.
 fn put_new<G: Ground>(ground: &G, parts: &mut Parts, row: Row) -> Result<Option<Usn>, CallError>
@@ -90,7 +45,7 @@ fn put_new<G: Ground>(ground: &G, parts: &mut Parts, row: Row) -> Result<Option<
     ensures broken { parts.new.broken ≡ parts.old.broken }
 {
     let number = row.number;
-    if let Some(code) = refusal_of_new(ground, parts, &row, 0) {
+    if let Some(code) = refusal_of_new(parts, &row, 0) {
         drop(row);
         return Err(CallError::No(code));
     }

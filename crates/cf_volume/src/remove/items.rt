@@ -1,6 +1,6 @@
 //! Removals, put.
 
-ghost use Rattle.std.specs.Prelude.{◌≡◌, ◌≤◌, ◌<◌, ◌+◌, ◌^◌, ◌∷◌, [], None, Some, length, IfErr, IfOk, OnOk, OnErr};
+ghost use Rattle.std.specs.Prelude.{◌≡◌, ◌<◌, ◌∷◌, [], None, Some, IfErr, IfOk, OnOk, OnErr};
 ghost use Rattle.cf_base.specs.declared.codes.CallError.TheVariants as fail;
 ghost use Rattle.cf_base.specs.declared.limits.TheConstants.{MOST_NUMBER};
 ghost use Rattle.cf_disk.specs.Disk.{size_of};
@@ -11,30 +11,15 @@ ghost use Rattle.cf_volume_points.specs.At.{At};
 ghost use Rattle.cf_volume_points.specs.Keeping.{FitsBook};
 ghost use Rattle.cf_table.specs.Changing.{item_of_change};
 ghost use Rattle.cf_volume.specs.Accepted.{FollowsAim};
-ghost use Rattle.cf_volume.specs.Calls.{IsKept, IsPut};
-ghost use Rattle.cf_volume.specs.Keys.{IsRemove, seen_key};
-ghost use Rattle.cf_volume.specs.Steady.{Steady, known_of};
+ghost use Rattle.cf_volume_changes.specs.Calls.{IsKept, IsPut};
+ghost use Rattle.cf_volume_changes.specs.Keys.{IsRemove};
+ghost use Rattle.cf_volume_changes.specs.Steady.{Steady, known_of};
 ghost use Rattle.cf_volume.specs.Written.{NotesOnly};
 
-use crate::parts::Parts;
-use crate::record_notes::note_record;
-use crate::remove::rows::remove_item;
-use crate::row_notes::note_row;
-use cf_base::{Blob, CallError, Change, ItemId, OutOfMemory, Usn};
+use cf_base::{CallError, Change, Usn};
 use cf_table::item_of;
+use cf_volume_changes::{Parts, note_record, note_row, remove_item, seen_key};
 use cf_volume_ground::Ground;
-use std::alloc::Global;
-
-/// The key of the record of an item's path seen.
-pub(crate) fn seen_key(alloc: Global, id: ItemId) -> Result<Blob, OutOfMemory>
-    ensures key { IfOk result (λ key. key ≡ seen_key id) }
-    ensures short { IfOk result (λ key. length key ≤ 255) }
-    ensures low { id.0 < 2 ^ 64 }
-{
-    let mut key = Vec::from_slice(alloc, b"s")?;
-    key.extend_from_slice(&id.0.to_be_bytes())?;
-    Ok(Blob::from_vec(key))
-}
 
 /// Puts a Remove, which needs no room, and gives its number. The item's path seen, its anchor and its last access go with
 /// it.

@@ -9,7 +9,7 @@ ghost use Rattle.cf_disk.specs.Disk.{Keeps, Leaves, size_of};
 ghost use Rattle.cf_volume_points.specs.Staging.{StagesBlock};
 ghost use Rattle.cf_volume_points.specs.Standing.{cluster_on};
 ghost use Rattle.cf_ranges.specs.Pairs.{IsRising, Puts, cluster_at};
-ghost use Rattle.cf_volume.specs.Laid.{Lays, StagesAll};
+ghost use Rattle.cf_volume_changes.specs.Laid.{Lays, StagesAll};
 ghost use Rattle.cf_volume_points.specs.Runs.{IsStop, Ran};
 
 use cf_base::{Change, OutOfMemory};

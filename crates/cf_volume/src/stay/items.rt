@@ -11,16 +11,15 @@ ghost use Rattle.cf_volume_points.specs.At.{At};
 ghost use Rattle.cf_table.specs.Changing.{Fits, item_of_change, stays};
 ghost use Rattle.cf_table.specs.Tables.{row_of};
 ghost use Rattle.cf_volume.specs.Accepted.{FollowsAim};
-ghost use Rattle.cf_volume.specs.Calls.{IsCause, IsKept, IsPut, Runs};
-ghost use Rattle.cf_volume.specs.Steady.{Steady, known_of};
+ghost use Rattle.cf_volume_changes.specs.Calls.{IsCause, IsKept, IsPut, Runs};
+ghost use Rattle.cf_volume_changes.specs.Steady.{Steady, known_of};
 ghost use Rattle.cf_volume.specs.Written.{NotesOnly, WritesAtMost};
 
 use crate::fullness::waits_for_room;
-use crate::parts::Parts;
-use crate::stay::plans::{plan_change, refusal_of};
 use crate::stay::rows::put_planned;
 use crate::stop_causes::fail_of;
 use cf_base::{CallError, Change, Usn};
+use cf_volume_changes::{Parts, plan_change, refusal_of};
 use cf_volume_ground::Ground;
 
 /// Puts a change of an item that is there and stays, and gives its number. None where it waits for a
@@ -55,7 +54,7 @@ pub(crate) fn put_stay<G: Ground>(
         place: last.place + 1,
     };
     let planned = plan_change(parts.alloc, &parts.contents.rows, change, number)?;
-    if let Some(code) = refusal_of(ground, parts, change, &planned) {
+    if let Some(code) = refusal_of(parts, change, &planned) {
         drop(planned);
         return Err(CallError::No(code));
     }

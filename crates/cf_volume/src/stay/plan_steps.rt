@@ -8,14 +8,14 @@ ghost use Rattle.cf_disk.specs.Disk.{Leaves, size_of};
 ghost use Rattle.cf_ranges.specs.Pairs.{cluster_at};
 ghost use Rattle.cf_table.specs.Applied.{IsSpellable};
 ghost use Rattle.cf_table.specs.Tables.{row_of};
-ghost use Rattle.cf_volume.specs.Laid.{Carries};
+ghost use Rattle.cf_volume_changes.specs.Laid.{Carries};
 ghost use Rattle.cf_volume_points.specs.Runs.{IsStop, Ran};
 
-use crate::stay::clusters::{Planned, settle_blocks};
-use crate::written_rows::put_row;
+use crate::stay::clusters::settle_blocks;
 use cf_base::{Change, ItemId};
 use cf_clusters::Data;
 use cf_table::Rows;
+use cf_volume_changes::{Planned, put_row};
 use cf_volume_ground::Ground;
 use cf_volume_points::Stop;
 use std::alloc::Global;

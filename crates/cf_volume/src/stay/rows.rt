@@ -15,16 +15,14 @@ ghost use Rattle.cf_volume_points.specs.Runs.{IsStop, Ran};
 ghost use Rattle.cf_table.specs.Changing.{item_of_change, pin_for, stays};
 ghost use Rattle.cf_table.specs.Tables.{row_of};
 ghost use Rattle.cf_table.specs.declared.rows.Row.{Row};
-ghost use Rattle.cf_volume.specs.Laid.{Plans};
-ghost use Rattle.cf_volume.specs.Steady.{Steady, known_of};
+ghost use Rattle.cf_volume_changes.specs.Laid.{Plans};
+ghost use Rattle.cf_volume_changes.specs.Steady.{Steady, known_of};
 ghost use Rattle.cf_volume.specs.Written.{NotesOnly};
 
-use crate::parts::Parts;
-use crate::row_notes::note_row;
-use crate::stay::clusters::Planned;
 use crate::stay::plan_steps::change_item;
 use cf_base::Change;
 use cf_table::item_of;
+use cf_volume_changes::{Parts, Planned, note_row};
 use cf_volume_ground::Ground;
 use cf_volume_points::Stop;
 

@@ -3,8 +3,8 @@ use Rattle.cf_base.specs.declared.answers.AuxRecord.{AuxRecord}
 use Rattle.cf_volume_image.specs.Contents.{image_of}
 use Rattle.cf_model.specs.Formats.{spell_image, with_record}
 use Rattle.cf_volume_points.proofs.Commits.{image_len_is}
-use Rattle.cf_volume.proofs.RecordRoom.{record_fits, record_full, record_put}
-use Rattle.cf_volume.specs.Steady.{known_of}
+use Rattle.cf_volume_changes.proofs.RecordRoom.{record_fits, record_full, record_put}
+use Rattle.cf_volume_changes.specs.Steady.{known_of}
 use Rattle.cf_volume.proofs.aux_puts.set_record.Goals as goal
 
 pub returns-then-is_too_long-clause-why : goal.returns-then-is_too_long-clause-why

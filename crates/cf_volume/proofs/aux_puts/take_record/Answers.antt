@@ -1,5 +1,5 @@
-use Rattle.cf_volume.proofs.RecordRoom.{taken_at, taken_short}
-use Rattle.cf_volume.specs.Steady.{known_of}
+use Rattle.cf_volume_changes.proofs.RecordRoom.{taken_at, taken_short}
+use Rattle.cf_volume_changes.specs.Steady.{known_of}
 use Rattle.cf_volume.proofs.aux_puts.take_record.Goals as goal
 
 pub returns-clause-ok : goal.returns-clause-ok

@@ -3,9 +3,10 @@ use Rattle.cf_base.specs.declared.ids.ItemId.{ItemId}
 use Rattle.cf_disk.specs.Disk.{size_of}
 use Rattle.cf_volume_points.proofs.Saves.{untouched_either}
 use Rattle.cf_volume_points.specs.Known.{Known}
-use Rattle.cf_volume.proofs.Committed.{commit_leaves, commit_room, commit_sure, committed_is, committed_steady, is_writable, not_yes}
-use Rattle.cf_volume.specs.Notes.{NotesNothing}
-use Rattle.cf_volume.specs.Steady.{Steady, known_of}
+use Rattle.cf_volume.proofs.Committed.{commit_leaves, commit_room, commit_sure, committed_is, committed_steady, is_writable}
+use Rattle.cf_volume_changes.proofs.EmptyTables.{not_yes}
+use Rattle.cf_volume_changes.specs.Notes.{NotesNothing}
+use Rattle.cf_volume_changes.specs.Steady.{Steady, known_of}
 use Rattle.cf_volume.proofs.Stopped.{failed_stop}
 use Rattle.cf_volume.proofs.commits.commit_parts.Goals as goal
 

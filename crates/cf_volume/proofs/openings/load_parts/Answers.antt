@@ -11,7 +11,7 @@ use Rattle.cf_volume_points.specs.Known.{Known}
 use Rattle.cf_volume_points.specs.Standing.{clusters_for, opened}
 use Rattle.cf_volume.proofs.OpenedFrom.{opened_from, refused_as_one, steady_opened}
 use Rattle.cf_volume.proofs.Stopped.{handed_on, refused_as}
-use Rattle.cf_volume.specs.Calls.{IsRefused}
+use Rattle.cf_volume_changes.specs.Calls.{IsRefused}
 use Rattle.cf_disk.specs.Disk.{capped}
 use Rattle.cf_volume_commit.specs.Loaded.{opening_bytes}
 use Rattle.cf_volume_image.specs.Contents.{image_of}

@@ -4,10 +4,10 @@ use Rattle.cf_clusters.specs.Roles.{how_many, is_now}
 use Rattle.cf_model.specs.Blocks.{puts_into}
 use Rattle.cf_model.specs.Numbers.{usn_after}
 use Rattle.cf_volume.proofs.Counting.{counted}
-use Rattle.cf_volume.proofs.Judged.{put_wanted, room_needed}
-use Rattle.cf_volume.proofs.NotThere.{absent_at, absent_puts, absent_why}
-use Rattle.cf_volume.specs.Steady.{known_of}
-use Rattle.cf_volume.specs.Waits.{passes}
+use Rattle.cf_volume_changes.proofs.Judged.{put_wanted, room_needed}
+use Rattle.cf_volume_changes.proofs.NotThere.{absent_at, absent_puts, absent_why}
+use Rattle.cf_volume_changes.specs.Steady.{known_of}
+use Rattle.cf_volume_changes.specs.Waits.{passes}
 use Rattle.cf_volume.proofs.record_changes.put_absent.Goals as goal
 
 pub returns-then-is_full-clause-put : goal.returns-then-is_full-clause-put
@@ -23,7 +23,7 @@ returns-then-branch-clause-put g c = λ v at.
     absent_puts (g.G.Ground.state c.args.ground.now) (known_of c.args.parts.now) v c.args.change.now at c.requires.kind c.requires.none ∙ sym c.clusters_asked-asked.ensures.asked in (
       absent_why (g.G.Ground.state c.args.ground.now) (known_of c.args.parts.now) v c.args.change.now at c.requires.kind c.requires.none c.is_full.result test c.requires.place
           ∙ ap (λ (b : Bool). cond b (Some code.Full) None) c.if-is_full.false,
-      room_needed (g.G.Ground.state c.args.ground.now) (known_of c.args.parts.now) v c.args.change.now c.clusters_asked-asked.result at puts (c.in_ok-waits_for_room.ensures.waits c.if-branch.true),
+      room_needed (g.G.Ground.state c.args.ground.now) (known_of c.args.parts.now) v c.args.change.now c.clusters_asked-asked.result at.now puts (c.in_ok-waits_for_room.ensures.waits c.if-branch.true),
     )
 
 pub returns-then-branch-clause-aimed : goal.returns-then-branch-clause-aimed
@@ -43,5 +43,5 @@ pub returns-clause-aimed : goal.returns-clause-aimed
 returns-clause-aimed g c = λ v at.
     let puts : length (puts_into v.items c.args.change.now) ≡ c.clusters_asked-asked.result =
     absent_puts (g.G.Ground.state c.args.ground.now) (known_of c.args.parts.now) v c.args.change.now at c.requires.kind c.requires.none ∙ sym c.clusters_asked-asked.ensures.asked in
-    put_wanted (g.G.Ground.state c.args.ground.now) (known_of c.args.parts.now) v c.args.change.now c.clusters_asked-asked.result at puts
+    put_wanted (g.G.Ground.state c.args.ground.now) (known_of c.args.parts.now) v c.args.change.now c.clusters_asked-asked.result at.now puts
     (g.G.Ground.state c.args.ground.now).settings.aim (c.in_ok-waits_for_room.ensures.light c.if-branch.false)

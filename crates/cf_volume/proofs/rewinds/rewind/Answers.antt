@@ -4,7 +4,7 @@ use Rattle.cf_model.specs.Rows as rows
 use Rattle.cf_model.specs.Standing.{are_apart, clusters_of}
 use Rattle.cf_table.specs.Spelling.{row_value}
 use Rattle.cf_volume.proofs.Rewound.{records_again, rows_again}
-use Rattle.cf_volume.specs.Steady.{known_of}
+use Rattle.cf_volume_changes.specs.Steady.{known_of}
 use Rattle.cf_volume.proofs.rewinds.rewind.Goals as goal
 
 pub data_of-requires : goal.data_of-requires

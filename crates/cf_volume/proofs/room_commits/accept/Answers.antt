@@ -1,5 +1,5 @@
 use Rattle.cf_volume_points.proofs.Saves.{staging_leaves, untouched}
-use Rattle.cf_volume.specs.Steady.{known_of}
+use Rattle.cf_volume_changes.specs.Steady.{known_of}
 use Rattle.cf_volume.proofs.room_commits.accept.Goals as goal
 
 pub returns-in-Make-clause-crash : goal.returns-in-Make-clause-crash

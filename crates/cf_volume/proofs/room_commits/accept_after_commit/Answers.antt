@@ -4,8 +4,8 @@ use Rattle.cf_model.specs.Points.{with_room_point}
 use Rattle.cf_volume_points.specs.At.{StandsEither, StandsLast}
 use Rattle.cf_volume.proofs.Stopped.{handed_on, on_err}
 use Rattle.cf_volume.proofs.WithRoom.{done_some, judged_none, judged_stop, kept_none, none_waits, room_now}
-use Rattle.cf_volume.specs.Calls.{StopsOnly}
-use Rattle.cf_volume.specs.Steady.{known_of}
+use Rattle.cf_volume_changes.specs.Calls.{StopsOnly}
+use Rattle.cf_volume_changes.specs.Steady.{known_of}
 use Rattle.cf_model.specs.Costs.{most_of_change}
 use Rattle.cf_volume.proofs.WrittenBytes.{notes_after, writes_more, writes_then}
 use Rattle.cf_volume.specs.Written.{commit_bytes, contents_in}

@@ -6,8 +6,8 @@ use Rattle.cf_volume_points.specs.At.{StandsEither}
 use Rattle.cf_volume_points.specs.Known.{Known}
 use Rattle.cf_volume.proofs.Stopped.{handed_on, on_err}
 use Rattle.cf_volume.proofs.WithRoom.{done_some, followed_none, followed_some, judged_none, kept_none, same_at}
-use Rattle.cf_volume.specs.Calls.{StopsOnly}
-use Rattle.cf_volume.specs.Steady.{known_of}
+use Rattle.cf_volume_changes.specs.Calls.{StopsOnly}
+use Rattle.cf_volume_changes.specs.Steady.{known_of}
 use Rattle.cf_model.specs.Costs.{most_of_change}
 use Rattle.cf_volume.proofs.WrittenBytes.{stops_answer, writes_more}
 use Rattle.cf_volume.specs.Written.{NotesOnly, WritesAtMost, commit_bytes, contents_in}

@@ -1,5 +1,5 @@
 use Rattle.cf_volume_points.proofs.Saves.{staging_leaves, untouched}
-use Rattle.cf_volume.specs.Steady.{known_of}
+use Rattle.cf_volume_changes.specs.Steady.{known_of}
 use Rattle.cf_volume.proofs.room_commits.put_in_place.Goals as goal
 
 pub returns-then-is_there-clause-crash : goal.returns-then-is_there-clause-crash

@@ -1,8 +1,8 @@
 use Rattle.std.proofs.Common.{◌<◌, length, ℕ}
 use Rattle.cf_volume.proofs.Counting.{counted}
 use Rattle.cf_volume.proofs.CopyPut.{copied_put, copied_steady}
-use Rattle.cf_volume.proofs.Puts.{found_inside}
-use Rattle.cf_volume.specs.Steady.{known_of}
+use Rattle.cf_volume_changes.proofs.Puts.{found_inside}
+use Rattle.cf_volume_changes.specs.Steady.{known_of}
 use Rattle.cf_volume.proofs.copy.files.put_copied.Goals as goal
 
 pub copy_item-requires-clause-inside : goal.copy_item-requires-clause-inside

@@ -1,7 +1,7 @@
 use Rattle.std.proofs.Common.{◌+◌, ap, ◌∙◌}
 use Rattle.cf_table.specs.Tables.{Table}
 use Rattle.cf_volume.proofs.AddedPut.{made_put, made_steady}
-use Rattle.cf_volume.specs.Steady.{known_of}
+use Rattle.cf_volume_changes.specs.Steady.{known_of}
 use Rattle.cf_volume.proofs.make.rows.put_made.Goals as goal
 
 pub returns-clause-at : goal.returns-clause-at

@@ -3,7 +3,7 @@ use Rattle.cf_disk.specs.Disk.{Leaves}
 use Rattle.cf_volume_commit.specs.Loaded.{StandsOrWas}
 use Rattle.cf_volume_points.specs.At.{At}
 use Rattle.cf_volume_points.specs.Standing.{clusters_for, opened}
-use Rattle.cf_volume.specs.Steady.{known_of}
+use Rattle.cf_volume_changes.specs.Steady.{known_of}
 use Rattle.cf_volume.proofs.openings.VolumeOn+DiskGround+D.open.Goals as goal
 
 pub returns-in-Ok-clause-ok : goal.returns-in-Ok-clause-ok

@@ -3,10 +3,10 @@ use Rattle.cf_disk.specs.Disk.{size_of}
 use Rattle.cf_model.specs.Formats.{without_record}
 use Rattle.cf_model.specs.Numbers.{usn_after}
 use Rattle.cf_volume.proofs.GoneCalls.{gone_call, gone_inside, gone_why, nothing_gone}
-use Rattle.cf_volume.proofs.GoneFits.{gone_steady}
-use Rattle.cf_volume.specs.Keys.{seen_key}
-use Rattle.cf_volume.specs.Notes.{Notes, NotesKey}
-use Rattle.cf_volume.specs.Steady.{known_of}
+use Rattle.cf_volume_changes.proofs.GoneFits.{gone_steady}
+use Rattle.cf_volume_changes.specs.Keys.{seen_key}
+use Rattle.cf_volume_changes.specs.Notes.{Notes, NotesKey}
+use Rattle.cf_volume_changes.specs.Steady.{known_of}
 use Rattle.cf_base.specs.declared.ids.ItemId.{ItemId}
 use Rattle.cf_table.specs.Changing.{item_of_change}
 use Rattle.cf_volume.proofs.WrittenBytes.{notes_one}

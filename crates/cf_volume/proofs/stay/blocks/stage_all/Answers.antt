@@ -1,6 +1,6 @@
 use Rattle.std.proofs.Common.{◌≡◌, ℕ, ◌+◌, suc, refl, arith, subst, ◌∙◌, sym, take, length-take}
 use Rattle.cf_volume.proofs.Stagings.{all_staged, room_left, stage_crash, stage_next, stage_ran, stage_start, stop_later, ran_less}
-use Rattle.cf_volume.specs.Laid.{StagesAll}
+use Rattle.cf_volume_changes.specs.Laid.{StagesAll}
 use Rattle.cf_volume.proofs.stay.blocks.stage_all.Goals as goal
 
 pub loop-number-init : goal.loop-number-init

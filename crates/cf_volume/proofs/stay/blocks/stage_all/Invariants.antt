@@ -1,5 +1,5 @@
 use Rattle.std.proofs.Common.{take}
-use Rattle.cf_volume.specs.Laid.{StagesAll}
+use Rattle.cf_volume_changes.specs.Laid.{StagesAll}
 use Rattle.cf_volume.proofs.stay.blocks.stage_all.Given as goal
 
 abbrev pub invariant-loop-number : goal.invariant-loop-number

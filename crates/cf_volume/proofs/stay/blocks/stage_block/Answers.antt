@@ -1,6 +1,6 @@
 use Rattle.std.proofs.Common.{ℕ, Option, sym, subst}
 use Rattle.cf_volume.proofs.Staged.{loaded, read_first, staged_after}
-use Rattle.cf_volume.specs.Laid.{HoldsIn}
+use Rattle.cf_volume_changes.specs.Laid.{HoldsIn}
 use Rattle.cf_volume.proofs.stay.blocks.stage_block.Goals as goal
 
 pub returns-clause-staged : goal.returns-clause-staged

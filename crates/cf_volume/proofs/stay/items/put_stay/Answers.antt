@@ -1,18 +1,22 @@
-use Rattle.std.proofs.Common.{◌≡◌, ◌∙◌, length, subst, arith}
+use Rattle.std.proofs.Common.{◌≡◌, ◌∙◌, inr, length, subst, arith}
 use Rattle.cf_model.specs.Numbers.{usn_after}
 use Rattle.cf_table.specs.Changing.{item_of_change, pin_for}
 use Rattle.cf_table.specs.Tables.{row_of}
-use Rattle.cf_volume.proofs.Judged.{needs_room, plan_puts, put_wanted}
-use Rattle.cf_volume.proofs.Planning.{fits_end}
-use Rattle.cf_volume.proofs.Puts.{found_fits, some_row}
+use Rattle.cf_volume_changes.proofs.Judged.{needs_room, plan_puts, put_wanted}
+use Rattle.cf_volume_changes.proofs.Planning.{fits_end}
+use Rattle.cf_volume_changes.proofs.Puts.{found_fits, some_row}
 use Rattle.cf_volume.proofs.Stopped.{not_device}
-use Rattle.cf_volume.specs.Steady.{known_of}
-use Rattle.cf_volume.specs.Waits.{MayWait}
+use Rattle.cf_volume_changes.specs.Steady.{known_of}
+use Rattle.cf_volume_changes.specs.Waits.{MayWait}
 use Rattle.cf_volume.proofs.WrittenBytes.{plan_writes}
+use Rattle.cf_volume_changes.proofs.Resting.{now_is}
 use Rattle.cf_volume.proofs.stay.items.put_stay.Goals as goal
 
 pub returns-in-Some-clause-cause : goal.returns-in-Some-clause-cause
 returns-in-Some-clause-cause g c = λ is. absurd (not_device c.in-Some.code c.in-Some.ensures.only is)
+
+pub returns-in-Some-clause-put : goal.returns-in-Some-clause-put
+returns-in-Some-clause-put g c = λ v at. inr (c.in-Some.ensures.why (g.G.Ground.state c.args.ground.now).seen v (now_is (g.G.Ground.state c.args.ground.now) (known_of c.args.parts.now) v at.now))
 
 pub put_planned-requires-clause-end : goal.put_planned-requires-clause-end
 put_planned-requires-clause-end g c =
@@ -22,16 +26,16 @@ put_planned-requires-clause-end g c =
 pub returns-then-waits-clause-put : goal.returns-then-waits-clause-put
 returns-then-waits-clause-put g c = λ v at.
     let row = some_row (row_of c.args.parts.now.contents.rows.rows (item_of_change c.args.change.now)) c.requires.there in (
-      c.in_default.ensures.why v at,
-      needs_room (g.G.Ground.state c.args.ground.now) (known_of c.args.parts.now) v c.args.change.now row.0 c.in_ok-planned.planned.row c.in_ok-planned.planned.blocks.items at c.requires.kind row.1 (c.in_ok-planned.ensures row.0 row.1)
+      c.in_default.ensures.why (g.G.Ground.state c.args.ground.now).seen v (now_is (g.G.Ground.state c.args.ground.now) (known_of c.args.parts.now) v at.now),
+      needs_room (g.G.Ground.state c.args.ground.now) (known_of c.args.parts.now) v c.args.change.now row.0 c.in_ok-planned.planned.row c.in_ok-planned.planned.blocks.items at.now c.requires.kind row.1 (c.in_ok-planned.ensures row.0 row.1)
           (subst (MayWait (known_of c.args.parts.now)) (let e : c.len.result ≡ length c.in_ok-planned.planned.blocks.items = omega (arith, c.len.ensures, c.in_ok-planned.planned.blocks.ok) in e) (c.in-Ok.ensures.waits c.if-waits.true)),
     )
 
 pub returns-in-Ok-put_planned-clause-put : goal.returns-in-Ok-put_planned-clause-put
 returns-in-Ok-put_planned-clause-put g c = λ v at. (
   (λ i. usn_after (at.now.epoch i) (at.now.place i)),
-  c.in_default.ensures.why v at,
-  c.in-Ok-put_planned.ensures.at v at (c.in_default.ensures.fits v at),
+  c.in_default.ensures.why (g.G.Ground.state c.args.ground.now).seen v (now_is (g.G.Ground.state c.args.ground.now) (known_of c.args.parts.now) v at.now),
+  c.in-Ok-put_planned.ensures.at v at (c.in_default.ensures.fits (g.G.Ground.state c.args.ground.now).seen v (now_is (g.G.Ground.state c.args.ground.now) (known_of c.args.parts.now) v at.now)),
 )
 
 pub returns-in-Ok-put_planned-clause-written : goal.returns-in-Ok-put_planned-clause-written
@@ -51,6 +55,6 @@ pub returns-in-Ok-put_planned-clause-aimed : goal.returns-in-Ok-put_planned-clau
 returns-in-Ok-put_planned-clause-aimed g c = λ v at.
     let row = some_row (row_of c.args.parts.now.contents.rows.rows (item_of_change c.args.change.now)) c.requires.there in
     let puts = plan_puts (g.G.Ground.state c.args.ground.now) (known_of c.args.parts.now) v c.args.change.now (pin_for c.args.change.now c.args.parts.now.contents.rows.rows) (usn_after c.args.parts.now.contents.last.epoch c.args.parts.now.contents.last.place)
-    row.0 c.in_ok-planned.planned.row c.in_ok-planned.planned.blocks.items at c.requires.kind row.1 (c.in_ok-planned.ensures row.0 row.1) in
-    put_wanted (g.G.Ground.state c.args.ground.now) (known_of c.args.parts.now) v c.args.change.now c.len.result at (omega (arith, puts, c.len.ensures, c.in_ok-planned.planned.blocks.ok))
+    row.0 c.in_ok-planned.planned.row c.in_ok-planned.planned.blocks.items at.now c.requires.kind row.1 (c.in_ok-planned.ensures row.0 row.1) in
+    put_wanted (g.G.Ground.state c.args.ground.now) (known_of c.args.parts.now) v c.args.change.now c.len.result at.now (omega (arith, puts, c.len.ensures, c.in_ok-planned.planned.blocks.ok))
     (g.G.Ground.state c.args.ground.now).settings.aim (c.in-Ok.ensures.light c.if-waits.false)

@@ -3,9 +3,9 @@ use Rattle.cf_base.specs.declared.ids.ItemId.{ItemId}
 use Rattle.cf_table.specs.Changing.{item_of_change}
 use Rattle.cf_volume.proofs.Counting.{counted}
 use Rattle.cf_volume.proofs.PlannedPut.{planned_at, planned_inside, planned_steady}
-use Rattle.cf_volume.specs.Laid.{Carries}
-use Rattle.cf_volume.specs.Notes.{Notes}
-use Rattle.cf_volume.specs.Steady.{known_of}
+use Rattle.cf_volume_changes.specs.Laid.{Carries}
+use Rattle.cf_volume_changes.specs.Notes.{Notes}
+use Rattle.cf_volume_changes.specs.Steady.{known_of}
 use Rattle.cf_volume.proofs.WrittenBytes.{notes_one}
 use Rattle.cf_volume.proofs.stay.rows.put_planned.Goals as goal
 

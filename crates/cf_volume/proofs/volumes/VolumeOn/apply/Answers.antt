@@ -3,7 +3,7 @@ use Rattle.cf_volume_points.proofs.Saves.{untouched, untouched_either}
 use Rattle.cf_volume_points.specs.At.{StandsEither, StandsLast}
 use Rattle.cf_volume.proofs.Views.{seen_at, seen_leaves}
 use Rattle.cf_volume.proofs.WithRoom.{whole_answer}
-use Rattle.cf_volume.specs.Steady.{known_of}
+use Rattle.cf_volume_changes.specs.Steady.{known_of}
 use Rattle.cf_model.specs.Costs.{most_of_change}
 use Rattle.cf_table.specs.Changing.{item_of_change}
 use Rattle.cf_volume.proofs.WrittenBytes.{seen_notes, seen_writes}

@@ -2,7 +2,7 @@ use Rattle.std.proofs.Common.{◌≡◌, sym, ◌∙◌}
 use Rattle.cf_base.specs.declared.codes.Code.TheVariants as code
 use Rattle.cf_volume.proofs.AuxKept.{aux_kept, aux_refused}
 use Rattle.cf_volume.proofs.Views.{seen_at, seen_known, seen_listed}
-use Rattle.cf_volume.specs.Steady.{known_of}
+use Rattle.cf_volume_changes.specs.Steady.{known_of}
 use Rattle.cf_volume.proofs.volumes.VolumeOn.aux_put_all.Goals as goal
 
 pub returns-in-Ok-clause-ok : goal.returns-in-Ok-clause-ok

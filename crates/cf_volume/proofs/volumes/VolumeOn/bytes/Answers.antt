@@ -5,7 +5,7 @@ use Rattle.cf_volume_points.proofs.Saves.{reading_leaves, untouched}
 use Rattle.cf_volume_points.specs.At.{StandsLast}
 use Rattle.cf_volume.proofs.OfVolume.{bytes_read, row_inside}
 use Rattle.cf_volume.proofs.Views.{seen_at, seen_here, seen_leaves}
-use Rattle.cf_volume.specs.Steady.{known_of}
+use Rattle.cf_volume_changes.specs.Steady.{known_of}
 use Rattle.cf_volume.proofs.volumes.VolumeOn.bytes.Goals as goal
 
 pub returns-then-self-clause-crash : goal.returns-then-self-clause-crash

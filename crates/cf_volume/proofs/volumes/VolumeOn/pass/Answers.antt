@@ -3,7 +3,7 @@ use Rattle.cf_model.specs.Books.{with_ticks}
 use Rattle.cf_volume_points.proofs.BookChanges.{passed_at}
 use Rattle.cf_volume_points.specs.At.{At}
 use Rattle.cf_volume.proofs.Views.{seen_at}
-use Rattle.cf_volume.specs.Steady.{known_of}
+use Rattle.cf_volume_changes.specs.Steady.{known_of}
 use Rattle.cf_volume.proofs.volumes.VolumeOn.pass.Goals as goal
 
 pub returns-clause-ok : goal.returns-clause-ok

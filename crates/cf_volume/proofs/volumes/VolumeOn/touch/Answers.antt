@@ -1,8 +1,8 @@
 use Rattle.std.proofs.Common.{sym}
 use Rattle.cf_disk.specs.Disk.{size_of}
-use Rattle.cf_volume.proofs.Rebooks.{touched_at, touched_steady}
+use Rattle.cf_volume_changes.proofs.Rebooks.{touched_at, touched_steady}
 use Rattle.cf_volume.proofs.Views.{seen_at}
-use Rattle.cf_volume.specs.Steady.{known_of}
+use Rattle.cf_volume_changes.specs.Steady.{known_of}
 use Rattle.cf_volume.proofs.WrittenBytes.{seen_notes, sets_notes}
 use Rattle.cf_volume.proofs.volumes.VolumeOn.touch.Goals as goal
 

@@ -1,6 +1,0 @@
-use Rattle.std.proofs.Common.{None}
-use Rattle.cf_volume.proofs.NotedKeys.{found_short}
-use Rattle.cf_volume.proofs.record_notes.copy_record.Goals as goal
-
-pub returns-clause-short : goal.returns-clause-short
-returns-clause-short c = found_short None c.args.records.now c.args.record.now.key c.args.record.now c.as_slice.ensures.rise c.requires

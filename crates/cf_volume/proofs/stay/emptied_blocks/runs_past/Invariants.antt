@@ -1,6 +1,0 @@
-use Rattle.std.proofs.Common.{drop}
-use Rattle.cf_volume.specs.Ahead.{IsAhead}
-use Rattle.cf_volume.proofs.stay.emptied_blocks.runs_past.Given as goal
-
-abbrev pub invariant-loop-i : goal.invariant-loop-i
-invariant-loop-i l = IsAhead l.place l.runs (drop l.i l.runs)

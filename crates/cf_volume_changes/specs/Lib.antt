@@ -1,0 +1,17 @@
+pub mod Now
+pub mod Laid
+pub mod Notes
+pub mod Steady
+pub mod Calls
+pub mod Keys
+pub mod NewRows
+pub mod AuxPuts
+pub mod RoomLeft
+pub mod Writable
+pub mod Drafts
+pub mod Drafting
+pub mod Tallies
+pub mod Besides
+pub mod Waits
+pub mod Ahead
+pub mod Growth
