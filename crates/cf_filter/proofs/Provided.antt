@@ -60,13 +60,17 @@ module _ {D P : Type 0} (state : D → State) (answers : Answering P) (H : Filte
         );
       }
 
-  pub provided_with : {A : Type 0} (show : A → Shown) (p q : P) (old begun mid y new : Held D) (before after stash : List Notice) (first r : Result Shown CallError) (told : Told A) (answer : Result A CallError)
-      → old.desk.broken ≡ false → begun ≡ noted before old → Answers (sense state) H part begun first mid
-      → ((f : Arrow Filter Shown) (x : Held D) (s : Filter) → PartTo state f x s first mid → CallsTo state answers f p x s r q y) → Takes show r told → answer ≡ answer_of told
+  -- a part and then its callbacks
+  pub called_back : (p q : P) (x mid y : Held D) (first r : Result Shown CallError) → Answers (sense state) H part x first mid
+      → ((f : Arrow Filter Shown) (z : Held D) (s : Filter) → PartTo state f z s first mid → CallsTo state answers f p z s r q y) → CallsBack state answers H part p x r q y
+  called_back p q x mid y first r h back = record { leads = λ s i has. back part x s (h.leads s i has) }
+
+  pub provided_with : {A : Type 0} (show : A → Shown) (p q : P) (old begun y new : Held D) (before after stash : List Notice) (r : Result Shown CallError) (told : Told A) (answer : Result A CallError)
+      → old.desk.broken ≡ false → begun ≡ noted before old → CallsBack state answers H part p begun r q y → Takes show r told → answer ≡ answer_of told
       → new ≡ broken_by (is_stopped told) (noted stash y) → after ≡ y.desk.notes → Provides state answers H show part p (noted before old) answer q (noted after new)
-  provided_with show p q old begun mid y new before after stash first r told answer whole b h back takes is n a =
+  provided_with show p q old begun y new before after stash r told answer whole b back takes is n a =
       provided show p q (noted before old) y (noted after new) r told answer (still_noted state before false old whole)
-      (record { leads = λ s i has. back part (noted before old) s ((subst (λ (z : Held D). Answers (sense state) H part z first mid) b h).leads s i has) }) takes is
+      (subst (λ (z : Held D). CallsBack state answers H part p z r q y) b back) takes is
       (ap (λ (l : List Notice). noted l new) a ∙ ap (λ (z : Held D). noted y.desk.notes z) n ∙ noted_back state (is_stopped told) stash y)
 
   pub provided_not : {A : Type 0} (show : A → Shown) (p q : P) (old new : Held D) (before after : List Notice) (e : CallError) (r : Result A CallError)

@@ -4,7 +4,7 @@
 use crate::filters::FilterOn;
 use crate::shown_values::done;
 use cf_base::{CallError, Mode, Notes, Pin, Reach};
-use cf_filter_calls::{delete, rename, set_pin};
+use cf_filter_calls::PlainCall;
 use cf_volume_ground::Ground;
 
 impl<G: Ground> FilterOn<G> {
@@ -20,7 +20,7 @@ impl<G: Ground> FilterOn<G> {
         ensures keeps { self.new.desk.notes ≡ self.old.desk.notes }
     {
         self.begin(notes)?;
-        let told = delete(&mut self.machine, mode, path);
+        let told = self.make(PlainCall::Delete { mode, path });
         self.finish_with(done(told), notes)
     }
 
@@ -31,7 +31,7 @@ impl<G: Ground> FilterOn<G> {
         ensures keeps { self.new.desk.notes ≡ self.old.desk.notes }
     {
         self.begin(notes)?;
-        let told = rename(&mut self.machine, from, to);
+        let told = self.make(PlainCall::Rename { from, to });
         self.finish_with(done(told), notes)
     }
 
@@ -48,7 +48,11 @@ impl<G: Ground> FilterOn<G> {
         ensures keeps { self.new.desk.notes ≡ self.old.desk.notes }
     {
         self.begin(notes)?;
-        let told = set_pin(&mut self.machine, path, state, reach);
+        let told = self.make(PlainCall::SetPin {
+            path,
+            pin: state,
+            reach,
+        });
         self.finish_with(done(told), notes)
     }
 }

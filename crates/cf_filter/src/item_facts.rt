@@ -7,7 +7,7 @@ use crate::answers::Info;
 use crate::filters::FilterOn;
 use crate::shown_values::{answer, blocks, clock, info, runs};
 use cf_base::{CallError, Class, Sequence, Span};
-use cf_filter_calls as calls;
+use cf_filter_calls::Question;
 use cf_volume_ground::Ground;
 
 impl<G: Ground> FilterOn<G> {
@@ -21,7 +21,7 @@ impl<G: Ground> FilterOn<G> {
         ensures { Asks (sense G.state) shows_info (info path.now) self.now result }
     {
         self.check()?;
-        let told = calls::info(&self.machine, path);
+        let told = self.tell(Question::Info { path });
         answer(info(told))
     }
 
@@ -31,7 +31,7 @@ impl<G: Ground> FilterOn<G> {
         ensures { Asks (sense G.state) shown.Ranges (ranges path.now class) self.now result }
     {
         self.check()?;
-        let told = calls::ranges(&self.machine, path, class);
+        let told = self.tell(Question::Ranges { path, class });
         answer(runs(told))
     }
 
@@ -40,7 +40,7 @@ impl<G: Ground> FilterOn<G> {
         ensures { Asks (sense G.state) shown.Used (used path.now) self.now result }
     {
         self.check()?;
-        let told = calls::used(&self.machine, path);
+        let told = self.tell(Question::Used { path });
         answer(clock(told))
     }
 
@@ -49,7 +49,7 @@ impl<G: Ground> FilterOn<G> {
         ensures { Asks (sense G.state) shows_blocks df self.now result }
     {
         self.check()?;
-        let told = calls::df(&self.machine);
+        let told = self.tell(Question::Df);
         answer(blocks(told))
     }
 }

@@ -8,6 +8,7 @@
 mod anchors;
 mod answers;
 mod callbacks;
+mod calls;
 mod engine_steps;
 mod filters;
 mod host_steps;

@@ -4,7 +4,7 @@
 use crate::filters::FilterOn;
 use crate::shown_values::{done, outcome};
 use cf_base::{AuxRecord, CallError, Notes, Operation, WaitId};
-use cf_filter_calls::{cancel, execute_with, tick};
+use cf_filter_calls::AskingCall;
 use cf_provider::{Outcome, Provider};
 use cf_volume_ground::Ground;
 
@@ -30,8 +30,7 @@ impl<G: Ground> FilterOn<G> {
         ensures keeps { self.new.desk.notes ≡ self.old.desk.notes }
     {
         self.begin(notes)?;
-        let first = cancel(&mut self.machine, wait);
-        let told = self.drained(first, p);
+        let told = self.ask_by(AskingCall::Cancel { wait }, p);
         self.finish_with(done(told), notes)
     }
 
@@ -46,8 +45,7 @@ impl<G: Ground> FilterOn<G> {
         ensures keeps { self.new.desk.notes ≡ self.old.desk.notes }
     {
         self.begin(notes)?;
-        let first = tick(&mut self.machine, ticks);
-        let told = self.drained(first, p);
+        let told = self.ask_by(AskingCall::Tick { ticks }, p);
         self.finish_with(done(told), notes)
     }
 
@@ -64,7 +62,7 @@ impl<G: Ground> FilterOn<G> {
         ensures keeps { self.new.desk.notes ≡ self.old.desk.notes }
     {
         self.begin(notes)?;
-        let first = execute_with(&mut self.machine, op, records);
+        let first = self.operate(op, records);
         let told = self.drained(first, p);
         self.finish_with(outcome(told), notes)
     }

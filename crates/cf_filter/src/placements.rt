@@ -7,7 +7,7 @@ ghost use Rattle.cf_item_rules.specs.PlaceholderPlans.{meant};
 use crate::filters::FilterOn;
 use crate::shown_values::{item, number};
 use cf_base::{CallError, Identity, ItemId, Notes, Usn};
-use cf_filter_calls::{convert, create, revert, unmark, update};
+use cf_filter_calls::PlainCall;
 use cf_item_rules::Creation;
 use cf_volume_ground::Ground;
 
@@ -31,7 +31,7 @@ impl<G: Ground> FilterOn<G> {
         ensures keeps { self.new.desk.notes ≡ self.old.desk.notes }
     {
         self.begin(notes)?;
-        let told = create(&mut self.machine, path, what);
+        let told = self.make(PlainCall::Create { path, what });
         self.finish_with(item(told), notes)
     }
 
@@ -47,7 +47,7 @@ impl<G: Ground> FilterOn<G> {
         ensures keeps { self.new.desk.notes ≡ self.old.desk.notes }
     {
         self.begin(notes)?;
-        let told = convert(&mut self.machine, path, identity);
+        let told = self.make(PlainCall::Convert { path, identity });
         self.finish_with(number(told), notes)
     }
 
@@ -58,7 +58,7 @@ impl<G: Ground> FilterOn<G> {
         ensures keeps { self.new.desk.notes ≡ self.old.desk.notes }
     {
         self.begin(notes)?;
-        let told = revert(&mut self.machine, path);
+        let told = self.make(PlainCall::Revert { path });
         self.finish_with(number(told), notes)
     }
 
@@ -77,7 +77,11 @@ impl<G: Ground> FilterOn<G> {
         ensures keeps { self.new.desk.notes ≡ self.old.desk.notes }
     {
         self.begin(notes)?;
-        let told = update(&mut self.machine, path, identity, size);
+        let told = self.make(PlainCall::Update {
+            path,
+            identity,
+            size,
+        });
         self.finish_with(number(told), notes)
     }
 
@@ -88,7 +92,7 @@ impl<G: Ground> FilterOn<G> {
         ensures keeps { self.new.desk.notes ≡ self.old.desk.notes }
     {
         self.begin(notes)?;
-        let told = unmark(&mut self.machine, path);
+        let told = self.make(PlainCall::Unmark { path });
         self.finish_with(number(told), notes)
     }
 }

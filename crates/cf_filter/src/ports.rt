@@ -7,7 +7,6 @@ use crate::filters::FilterOn;
 use crate::paths::spell_paths;
 use crate::shown_values::outcome;
 use cf_base::{Ask, AuxRecord, CallError, Code, Key, Notice, Operation, OutOfMemory, SeenPath};
-use cf_filter_calls::execute_with;
 use cf_provider::{Outcome, Port};
 use cf_table::Rows;
 use cf_volume_ground::Ground;
@@ -85,7 +84,7 @@ impl<G: Ground> FilterOn<G> {
         if self.is_broken() {
             return Err(CallError::No(Code::Broken));
         }
-        let told = execute_with(&mut self.machine, op, records);
+        let told = self.operate(op, records);
         match outcome(told) {
             Ok(Ok(given)) => Ok(given),
             Ok(Err(code)) => {

@@ -5,7 +5,7 @@ use crate::answers::Waited;
 use crate::filters::FilterOn;
 use crate::shown_values::waited;
 use cf_base::{CallError, Handle, Notes, Span};
-use cf_filter_calls::{dehydrate, get, hydrate, list, read};
+use cf_filter_calls::AskingCall;
 use cf_provider::Provider;
 use cf_volume_ground::Ground;
 
@@ -31,8 +31,7 @@ impl<G: Ground> FilterOn<G> {
         ensures keeps { self.new.desk.notes ≡ self.old.desk.notes }
     {
         self.begin(notes)?;
-        let first = read(&mut self.machine, handle, span);
-        let told = self.drained(first, p);
+        let told = self.ask_by(AskingCall::Read { handle, span }, p);
         self.finish_with(waited(told), notes)
     }
 
@@ -48,8 +47,7 @@ impl<G: Ground> FilterOn<G> {
         ensures keeps { self.new.desk.notes ≡ self.old.desk.notes }
     {
         self.begin(notes)?;
-        let first = get(&mut self.machine, path, span);
-        let told = self.drained(first, p);
+        let told = self.ask_by(AskingCall::Get { path, span }, p);
         self.finish_with(waited(told), notes)
     }
 
@@ -64,8 +62,7 @@ impl<G: Ground> FilterOn<G> {
         ensures keeps { self.new.desk.notes ≡ self.old.desk.notes }
     {
         self.begin(notes)?;
-        let first = list(&mut self.machine, path);
-        let told = self.drained(first, p);
+        let told = self.ask_by(AskingCall::List { path }, p);
         self.finish_with(waited(told), notes)
     }
 
@@ -81,8 +78,7 @@ impl<G: Ground> FilterOn<G> {
         ensures keeps { self.new.desk.notes ≡ self.old.desk.notes }
     {
         self.begin(notes)?;
-        let first = hydrate(&mut self.machine, path);
-        let told = self.drained(first, p);
+        let told = self.ask_by(AskingCall::Hydrate { path }, p);
         self.finish_with(waited(told), notes)
     }
 
@@ -99,8 +95,7 @@ impl<G: Ground> FilterOn<G> {
         ensures keeps { self.new.desk.notes ≡ self.old.desk.notes }
     {
         self.begin(notes)?;
-        let first = dehydrate(&mut self.machine, path, range);
-        let told = self.drained(first, p);
+        let told = self.ask_by(AskingCall::Dehydrate { path, range }, p);
         self.finish_with(waited(told), notes)
     }
 }

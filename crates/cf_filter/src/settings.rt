@@ -6,7 +6,7 @@ ghost use Rattle.cf_base.specs.declared.answers.Shown.TheVariants as shown;
 use crate::filters::FilterOn;
 use crate::shown_values::{count, done, handle};
 use cf_base::{CallError, Handle, Mode, Notes, Policy};
-use cf_filter_calls::{connect, flush, open_file, set_policy};
+use cf_filter_calls::PlainCall;
 use cf_volume_ground::Ground;
 
 impl<G: Ground> FilterOn<G> {
@@ -23,7 +23,7 @@ impl<G: Ground> FilterOn<G> {
         ensures { Calls (sense G.state) shows_done (set_policy mode policy.now) self.old result self.new }
     {
         self.check()?;
-        let told = set_policy(&mut self.machine, mode, policy);
+        let told = self.make(PlainCall::SetPolicy { mode, policy });
         self.finish(done(told))
     }
 
@@ -34,7 +34,7 @@ impl<G: Ground> FilterOn<G> {
         ensures keeps { self.new.desk.notes ≡ self.old.desk.notes }
     {
         self.begin(notes)?;
-        let told = connect(&mut self.machine, on);
+        let told = self.make(PlainCall::Connect { on });
         self.finish_with(done(told), notes)
     }
 
@@ -43,7 +43,7 @@ impl<G: Ground> FilterOn<G> {
         ensures { Calls (sense G.state) shown.Opened (open_file path.now) self.old result self.new }
     {
         self.check()?;
-        let told = open_file(&mut self.machine, path);
+        let told = self.make(PlainCall::OpenFile { path });
         self.finish(handle(told))
     }
 
@@ -52,7 +52,7 @@ impl<G: Ground> FilterOn<G> {
         ensures { Calls (sense G.state) shown.Count flush self.old result self.new }
     {
         self.check()?;
-        let told = flush(&mut self.machine);
+        let told = self.make(PlainCall::Flush);
         self.finish(count(told))
     }
 }

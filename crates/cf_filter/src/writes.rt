@@ -6,7 +6,7 @@ ghost use Rattle.cf_base.specs.declared.answers.Shown.TheVariants as shown;
 use crate::filters::FilterOn;
 use crate::shown_values::{done, number};
 use cf_base::{CallError, Handle, Notes, Usn};
-use cf_filter_calls::{close, keep_full, set_in_sync, set_size, write};
+use cf_filter_calls::AskingCall;
 use cf_provider::Provider;
 use cf_volume_ground::Ground;
 
@@ -32,8 +32,7 @@ impl<G: Ground> FilterOn<G> {
         ensures keeps { self.new.desk.notes ≡ self.old.desk.notes }
     {
         self.begin(notes)?;
-        let first = write(&mut self.machine, handle, at, bytes);
-        let told = self.drained(first, p);
+        let told = self.ask_by(AskingCall::Write { handle, at, bytes }, p);
         self.finish_with(done(told), notes)
     }
 
@@ -49,8 +48,7 @@ impl<G: Ground> FilterOn<G> {
         ensures keeps { self.new.desk.notes ≡ self.old.desk.notes }
     {
         self.begin(notes)?;
-        let first = set_size(&mut self.machine, handle, size);
-        let told = self.drained(first, p);
+        let told = self.ask_by(AskingCall::SetSize { handle, size }, p);
         self.finish_with(done(told), notes)
     }
 
@@ -65,8 +63,7 @@ impl<G: Ground> FilterOn<G> {
         ensures keeps { self.new.desk.notes ≡ self.old.desk.notes }
     {
         self.begin(notes)?;
-        let first = close(&mut self.machine, handle);
-        let told = self.drained(first, p);
+        let told = self.ask_by(AskingCall::Close { handle }, p);
         self.finish_with(done(told), notes)
     }
 
@@ -83,8 +80,13 @@ impl<G: Ground> FilterOn<G> {
         ensures keeps { self.new.desk.notes ≡ self.old.desk.notes }
     {
         self.begin(notes)?;
-        let first = set_in_sync(&mut self.machine, path, given);
-        let told = self.drained(first, p);
+        let told = self.ask_by(
+            AskingCall::SetInSync {
+                path,
+                number: given,
+            },
+            p,
+        );
         self.finish_with(number(told), notes)
     }
 
@@ -101,8 +103,7 @@ impl<G: Ground> FilterOn<G> {
         ensures keeps { self.new.desk.notes ≡ self.old.desk.notes }
     {
         self.begin(notes)?;
-        let first = keep_full(&mut self.machine, path, on);
-        let told = self.drained(first, p);
+        let told = self.ask_by(AskingCall::KeepFull { path, on }, p);
         self.finish_with(done(told), notes)
     }
 }

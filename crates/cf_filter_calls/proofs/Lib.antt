@@ -20,3 +20,4 @@ pub mod Entered
 pub mod Executed
 pub mod Listed
 pub mod ListsSuit
+pub mod Valued

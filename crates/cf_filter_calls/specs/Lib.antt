@@ -6,5 +6,6 @@ pub mod Executing
 pub mod Handles
 pub mod Moved
 pub mod Operating
+pub mod Parts
 pub mod Planned
 pub mod Told

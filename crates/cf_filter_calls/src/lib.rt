@@ -2,6 +2,8 @@
 //! began.
 #![tactic(auto)]
 
+mod call_values;
+mod calls;
 mod commits;
 mod consents;
 mod creations;
@@ -25,6 +27,8 @@ mod transfers;
 mod waits;
 mod writes;
 
+pub use call_values::{AskingCall, PlainCall, Question};
+pub use calls::{answer, ask, make};
 pub use commits::flush;
 pub use creations::create;
 pub use dehydrations::{dehydrate, dehydrate_range, facts_of};

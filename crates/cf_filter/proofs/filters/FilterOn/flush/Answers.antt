@@ -1,5 +1,5 @@
-use Rattle.cf_filter.proofs.Called.{called, seen_from}
+use Rattle.cf_filter.proofs.Called.{called}
 use Rattle.cf_filter.proofs.filters.FilterOn.flush.Goals as goal
 
 pub returns : goal.returns
-returns g c = called g.G.Ground.state _ _ _ _ _ _ _ _ c.in_ok-check.ensures.ok (seen_from c.self.view_is c.flush-told.ensures) c.count.ensures c.finish.ensures.answer c.finish.ensures.new
+returns g c = called g.G.Ground.state _ _ _ _ _ _ _ _ c.in_ok-check.ensures.ok c.make-told.ensures c.count.ensures c.finish.ensures.answer c.finish.ensures.new

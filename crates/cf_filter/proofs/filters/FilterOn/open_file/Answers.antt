@@ -1,5 +1,5 @@
-use Rattle.cf_filter.proofs.Called.{called, seen_from}
+use Rattle.cf_filter.proofs.Called.{called}
 use Rattle.cf_filter.proofs.filters.FilterOn.open_file.Goals as goal
 
 pub returns : goal.returns
-returns g c = called g.G.Ground.state _ _ _ _ _ _ _ _ c.in_ok-check.ensures.ok (seen_from c.self.view_is c.open_file-told.ensures) c.handle.ensures c.finish.ensures.answer c.finish.ensures.new
+returns g c = called g.G.Ground.state _ _ _ _ _ _ _ _ c.in_ok-check.ensures.ok c.make-told.ensures c.handle.ensures c.finish.ensures.answer c.finish.ensures.new
