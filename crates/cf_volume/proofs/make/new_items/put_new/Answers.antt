@@ -2,6 +2,7 @@ use Rattle.std.proofs.Common.{length, ap, ◌∙◌, inr}
 use Rattle.cf_model.specs.Numbers.{usn_after}
 use Rattle.cf_volume_changes.proofs.Judged.{nothing_needed}
 use Rattle.cf_volume_changes.proofs.Resting.{now_is}
+use Rattle.cf_volume_changes.specs.Steady.{known_of}
 use Rattle.cf_volume.proofs.make.new_items.put_new.Goals as goal
 
 pub returns-in-Some-clause-put : goal.returns-in-Some-clause-put

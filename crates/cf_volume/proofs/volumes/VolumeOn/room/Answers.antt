@@ -5,7 +5,7 @@ use Rattle.cf_volume_changes.specs.Steady.{known_of}
 use Rattle.cf_volume.proofs.volumes.VolumeOn.room.Goals as goal
 
 pub room_for-requires : goal.room_for-requires
-room_for-requires g c = (c.self.invariant c.if-self.false).later
+room_for-requires g c = record { later = (c.self.invariant c.if-self.false).later }
 
 pub returns : goal.returns
 returns g c = λ v at fits.
