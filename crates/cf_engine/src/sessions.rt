@@ -7,12 +7,12 @@ ghost use Rattle.cf_engine.specs.Sessions.{StepsEngine, said};
 ghost use Rattle.cf_engine_steps.specs.Answering.{Answers, Any};
 ghost use Rattle.cf_engine_steps.specs.States.{whole};
 ghost use Rattle.cf_filter_events.specs.Counted.{StepsOn};
-ghost use Rattle.cf_filter_machine.specs.Sensing.{sense};
 ghost use Rattle.cf_model.specs.EngineEvents.{engine_event};
 ghost use Rattle.cf_model.specs.Events.{engine_needs};
 
 use crate::actors::SyncActor;
 use cf_base::{Answer, CallError, EngineEvent, Notes, OutOfMemory, Shown, no_such_state};
+use cf_engine_host::EngineHost;
 use cf_engine_passes::{deliver, sync, work};
 use cf_engine_space::space;
 use cf_engine_steps::Engine;
@@ -22,19 +22,19 @@ use cf_remote::Remote;
 use cf_volume_ground::Ground;
 use std::alloc::Global;
 
-// What the event does. One that needs no volume is none of these.
-fn part<G: Ground, R: Remote>(
-    filter: &mut FilterOn<G>,
+// What the event does on any host. One that needs no volume is none of these.
+fn part<H: EngineHost, R: Remote>(
+    host: &mut H,
     engine: &mut Engine<R>,
     event: EngineEvent,
 ) -> Result<Shown, CallError>
-    ensures { Answers (whole (sense G.state) R.told) Any (engine_event event) (filter.old, engine.old) result (filter.new, engine.new) }
+    ensures { Answers (whole H.sense R.told) Any (engine_event event) (host.old, engine.old) result (host.new, engine.new) }
 {
     match event {
-        EngineEvent::Deliver { message } => deliver(filter, engine, message),
-        EngineEvent::Work => work(filter, engine),
-        EngineEvent::Sync => sync(filter, engine),
-        EngineEvent::Space { blocks } => space(filter, engine, blocks),
+        EngineEvent::Deliver { message } => deliver(host, engine, message),
+        EngineEvent::Work => work(host, engine),
+        EngineEvent::Sync => sync(host, engine),
+        EngineEvent::Space { blocks } => space(host, engine, blocks),
         _ => Err(CallError::from(no_such_state())),
     }
 }
