@@ -87,6 +87,7 @@ module _ {D R A : Type 0} (state : D → Disk) (told : R → Told) (W : Acts A) 
         faulted = counts (faults_by trace) r.faulted;
         exactly = exactly (start W.mode held (clusters_for (state disk))) r.left trace r.powers r.runs r.faulted r.exactly;
         lasts = r.lasts;
+        few = r.few;
         promises = λ fresh. promised W.mode held (clusters_for (state disk)) trace r.left fresh runs;
         remote = leaves held trace r.left r.holds runs;
       }

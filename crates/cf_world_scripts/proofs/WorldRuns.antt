@@ -5,7 +5,7 @@ use Rattle.cf_filter_events.proofs.Wholes.{hands_hold}
 use Rattle.cf_filter_events.specs.Actors.{Acts, IsActor}
 use Rattle.cf_filter_events.specs.Counted.{CountsOver, GoesOn}
 use Rattle.cf_filter_events.specs.Faulted.{Faults, faults_shown}
-use Rattle.cf_filter_events.specs.Meaning.{Is}
+use Rattle.cf_filter_events.specs.Meaning.{Is, LeavesWhatReads}
 use Rattle.cf_filter_events.specs.Pasts.{Gains, Past, StandsFor, last_image}
 use Rattle.cf_filter_events.specs.Stepped.{Bears, StepsOver, actor_of, disk_of}
 use Rattle.cf_filter_events.specs.declared.places.Acting.{Acting}
@@ -21,11 +21,12 @@ use Rattle.cf_link.specs.Listed.{Lists}
 use Rattle.cf_model.specs.Powers.{StandsNow}
 use Rattle.cf_model.specs.State.{State, start}
 use Rattle.cf_model.specs.Store.{Held}
+use Rattle.cf_state.proofs.Standing.{few_blocks, most_blocks}
 use Rattle.cf_volume_points.specs.Standing.{clusters_for}
 use Rattle.cf_world_scripts.proofs.Counted.{armed_more, armed_none, at_most, met_more, met_none}
 use Rattle.cf_world_scripts.proofs.OverPowers.{after_all, gains_then, last_then, listed_push, over_push, over_runs}
 use Rattle.cf_world_scripts.proofs.RemoteCounts.{faulted_more, faulted_none}
-use Rattle.cf_world_scripts.specs.Led.{HasRunOn, LeadsActor, LeadsWorld, LeavesActor, LeavesText, met_by}
+use Rattle.cf_world_scripts.specs.Led.{HasRunOn, LeadsActor, LeadsWorld, LeavesActor, LeavesText, UsesFew, met_by}
 use Rattle.cf_world_scripts.specs.RemoteFaults.{faults_by}
 use Rattle.cf_world_scripts.specs.Steps.{IsLawfulFrom}
 
@@ -95,11 +96,15 @@ module _ {D A : Type 0} (state : D → Disk) (W : Acts A) where
     is = starts held stood (record { told = (state disk).powers; last = None }) refl;
   }
 
+  -- where each disk may leave in a crash what it reads as
+  pub few_in : LeavesWhatReads state → (a : Acting D A) (past : Past) (s : State) → Is W state past a s → UsesFew (state (disk_of a)) s
+  few_in reads a past s is = (few_blocks W state past a s is, most_blocks W state past reads a s is)
+
   -- what is handed back
 
   hands_back : (held : Held) (disk back : D) (first actor : A) (trace : List (Event × Answer)) (a : Acting D A) → ((past : Past) (s : State) → Is W state past a s → (c : List ℕ) → (state back).may_leave c → StandsNow StandsFor s c)
-      → ((past : Past) (s : State) → Is W state past a s → (state back).powers ≡ past.told) → ((past : Past) (s : State) → Is W state past a s → W.holds actor s) → back ≡ disk_of a → actor ≡ actor_of a → LeadsWorld state W held disk first trace a → LeadsActor state W held disk first trace back actor
-  hands_back held disk back first actor trace a lasts tells holds same kept r =
+      → ((past : Past) (s : State) → Is W state past a s → (state back).powers ≡ past.told) → ((past : Past) (s : State) → Is W state past a s → W.holds actor s) → ((past : Past) (s : State) → Is W state past a s → UsesFew (state (disk_of a)) s) → back ≡ disk_of a → actor ≡ actor_of a → LeadsWorld state W held disk first trace a → LeadsActor state W held disk first trace back actor
+  hands_back held disk back first actor trace a lasts tells holds few same kept r =
       let past : Past = record { told = r.told; last = last_image None r.powers } in
       record {
         left = r.left;
@@ -112,20 +117,21 @@ module _ {D A : Type 0} (state : D → Disk) (W : Acts A) where
         faulted = subst (λ (p : A). RoseBy (faults_by trace) (W.remote first).faults (W.remote p).faults) (sym kept) r.faulted;
         exactly = λ fails begun. (r.exactly fails begun).1;
         lasts = lasts past r.left r.is;
+        few = subst (λ (d : D). UsesFew (state d) r.left) (sym same) (few past r.left r.is);
         holds = holds past r.left r.is;
       }
 
   pub gives : (o : Option (Acting D A)) (a : Acting D A) (back : D) (actor : A) → o ≡ Some a → ((past : Past) (s : State) → Is W state past a s → (c : List ℕ) → (state back).may_leave c → StandsNow StandsFor s c)
-      → ((past : Past) (s : State) → Is W state past a s → (state back).powers ≡ past.told) → ((past : Past) (s : State) → Is W state past a s → W.holds actor s) → back ≡ disk_of a → actor ≡ actor_of a
+      → ((past : Past) (s : State) → Is W state past a s → (state back).powers ≡ past.told) → ((past : Past) (s : State) → Is W state past a s → W.holds actor s) → ((past : Past) (s : State) → Is W state past a s → UsesFew (state (disk_of a)) s) → back ≡ disk_of a → actor ≡ actor_of a
       → (disk : D) (first : A) (trace : List (Event × Answer)) → HasRunOn state W disk first trace o → LeavesActor state W disk first trace back actor
-  gives o a back actor some lasts tells holds same kept disk first trace h held stood =
-      hands_back held disk back first actor trace a lasts tells holds same kept ((subst (λ (x : Option (Acting D A)). HasRunOn state W disk first trace x) some h) held stood)
+  gives o a back actor some lasts tells holds few same kept disk first trace h held stood =
+      hands_back held disk back first actor trace a lasts tells holds few same kept ((subst (λ (x : Option (Acting D A)). HasRunOn state W disk first trace x) some h) held stood)
 
   -- and what is said of the state
   pub gives_text : (Said : State → Type 0) (o : Option (Acting D A)) (a : Acting D A) (back : D) (actor : A) → o ≡ Some a → ((past : Past) (s : State) → Is W state past a s → Said s) → ((past : Past) (s : State) → Is W state past a s → (c : List ℕ) → (state back).may_leave c → StandsNow StandsFor s c)
-      → ((past : Past) (s : State) → Is W state past a s → (state back).powers ≡ past.told) → ((past : Past) (s : State) → Is W state past a s → W.holds actor s) → back ≡ disk_of a → actor ≡ actor_of a
+      → ((past : Past) (s : State) → Is W state past a s → (state back).powers ≡ past.told) → ((past : Past) (s : State) → Is W state past a s → W.holds actor s) → ((past : Past) (s : State) → Is W state past a s → UsesFew (state (disk_of a)) s) → back ≡ disk_of a → actor ≡ actor_of a
       → (disk : D) (first : A) (trace : List (Event × Answer)) → HasRunOn state W disk first trace o → LeavesText state W disk first trace back actor Said
   unfolding hands_back
-  gives_text Said o a back actor some says lasts tells holds same kept disk first trace h held stood =
+  gives_text Said o a back actor some says lasts tells holds few same kept disk first trace h held stood =
       let r = (subst (λ (x : Option (Acting D A)). HasRunOn state W disk first trace x) some h) held stood in
-      (hands_back held disk back first actor trace a lasts tells holds same kept r, says (record { told = r.told; last = last_image None r.powers }) r.left r.is)
+      (hands_back held disk back first actor trace a lasts tells holds few same kept r, says (record { told = r.told; last = last_image None r.powers }) r.left r.is)

@@ -29,7 +29,8 @@ use Rattle.cf_model_laws.specs.Premises.{IsFresh}
 use Rattle.cf_model_settling.specs.Settling.{SettlesIfSilent}
 use Rattle.cf_remote.specs.Peers.{IsCount, IsHeld}
 use Rattle.cf_remote.specs.Told.{Told}
-use Rattle.cf_volume_points.specs.Standing.{clusters_for}
+use Rattle.cf_state.specs.Texts.{used_blocks}
+use Rattle.cf_volume_points.specs.Standing.{clusters_for, clusters_on}
 use Rattle.cf_world_scripts.specs.RemoteFaults.{ReportsExactly, ReportsListed, faults_by}
 
 -- how many answers of a trace report a device call that failed
@@ -82,14 +83,18 @@ abbrev pub LeavesRemote : {R : Type 0} → (R → Told) → Mode → Held → �
 LeavesRemote told Replay held clusters trace left remote = RemoteLeft told held clusters trace left remote
 LeavesRemote told Filter held clusters trace left remote = Unit {0}
 
+-- no more blocks hold a byte than the disk has clusters, which are at most 65,536
+abbrev pub UsesFew : Disk → State → Type 0
+UsesFew d s = (used_blocks s ≤ clusters_on d.seen) × (used_blocks s ≤ 65536)
+
 -- What a trace leaves of a disk on which it began with a new volume, and of the remote. There is one power cut of the disk for each
 -- crash, with its choice and in order, and each `resumed` opens what the image that the last of them left stands for. These are all
 -- the power cuts that the disk had, where it reports them. Of each answer Device a device call failed in its event: the count of
 -- faults rose by as many at least; and where the disk reported that none was armed as the run began, an answer Device comes only after a
 -- stop with no crash between. Of each line of a fault and each RemoteFault an ask of the remote failed: its count of faults rose by as
 -- many at least, and where it lists the asks that fail these are exactly the failures that the answers report. Whatever a crash leaves
--- then stands for a point that a restart may open. Of the same trace all holds that a user is promised of both commands, where the remote
--- had recorded no token.
+-- then stands for a point that a restart may open. No more blocks are in use than the disk has clusters. Of the same trace all holds that a
+-- user is promised of both commands, where the remote had recorded no token.
 pub record LeadsDisk {D R : Type 0} (state : D → Disk) (told : R → Told) (m : Mode) (held : Held) (disk : D) (first : R) (trace : List (Event × Answer)) (back : D) (after : R) : Type 0 where
   pub left : State
   pub powers : List (Choice × List ℕ)
@@ -101,6 +106,7 @@ pub record LeadsDisk {D R : Type 0} (state : D → Disk) (told : R → Told) (m 
   pub faulted : RoseBy (faults_by trace) (told first).faults (told after).faults
   pub exactly : ReportsExactly m (told first) (start m held (clusters_for (state disk))) trace powers left runs
   pub lasts : (c : List ℕ) → (state back).may_leave c → StandsNow StandsFor left c
+  pub few : UsesFew (state back) left
   pub promises : IsFresh held → Promises m held (clusters_for (state disk)) trace left
   pub remote : LeavesRemote told m held (clusters_for (state disk)) trace left after
 
@@ -142,6 +148,7 @@ pub record LeadsActor {D A : Type 0} (state : D → Disk) (W : Acts A) (held : H
   pub faulted : RoseBy (faults_by trace) (W.remote first).faults (W.remote actor).faults
   pub exactly : (fails : List ℕ) → Lists fails (W.remote first) → ReportsListed fails W.mode None (start W.mode held (clusters_for (state disk))) trace powers left runs
   pub lasts : (c : List ℕ) → (state back).may_leave c → StandsNow StandsFor left c
+  pub few : UsesFew (state back) left
   pub holds : W.holds actor left
 
 -- whichever remote of the definitions the actor stood for
