@@ -7,7 +7,7 @@ use Rattle.cf_disk.specs.declared.old_pages.OldPages.{OldPages}
 use Rattle.cf_disk.specs.Disk.{part}
 use Rattle.cf_disk.specs.Fronts.{filled}
 use Rattle.cf_disk.specs.Images.{mixed, mixed_after, stirs}
-use Rattle.cf_disk.specs.Keeping.{is_written, old_byte, old_bytes, slot_of, written_places, IsMedium, IsSound, PutsPage, PutsPages}
+use Rattle.cf_disk.specs.Keeping.{is_written, old_byte, old_bytes, pool_byte, pool_flag, slot_of, written_places, IsMedium, IsSound, PutsPage, PutsPages}
 use Rattle.cf_disk.specs.Parts.{length-part, get_or-part}
 use Rattle.cf_disk.specs.Splice.{over, length-over, over_before, over_in, over_after}
 use Rattle.cf_disk.proofs.FrontLaws.{length-filled, filled_any, filled_over}
@@ -33,13 +33,13 @@ written_quiet n o i is = elim (cases_lt i n) [
 ]
 
 -- one page of the pool is put back
-module _ (o : OldPages) (number low len : ℕ) (old new : List ℕ) (sound : IsSound o) (lt : number < length o.pages.items)
-    (low_is : low ≡ min (get_or o.pages.items number 0 * 4096) (length old)) (len_is : len ≡ min 4096 (length old - low))
-    (new_is : new ≡ over low (part (number * 4096) len o.bytes.items) old) where
-  size : length (part (number * 4096) len o.bytes.items) ≡ len
-  size = length-part (number * 4096) len o.bytes.items (omega (arith, sound.bytes_size))
+module _ (o : OldPages) (number start low len : ℕ) (old new : List ℕ) (sound : IsSound o) (lt : number < length o.pages.items)
+    (start_is : start ≡ get_or o.starts.items number 0) (low_is : low ≡ min (get_or o.pages.items number 0 * 4096) (length old)) (len_is : len ≡ min 4096 (length old - low))
+    (new_is : new ≡ over low (part start len o.bytes.items) old) where
+  size : length (part start len o.bytes.items) ≡ len
+  size = length-part start len o.bytes.items (omega (arith, sound.ends number lt, start_is))
 
-  fits : low + length (part (number * 4096) len o.bytes.items) ≤ length old
+  fits : low + length (part start len o.bytes.items) ≤ length old
   fits = omega (arith, size)
 
   other_page : (i : ℕ) → (slot_of o i ≡ suc number → ⊥) → i / 4096 ≡ get_or o.pages.items number 0 → ⊥
@@ -57,18 +57,18 @@ module _ (o : OldPages) (number low len : ℕ) (old new : List ℕ) (sound : IsS
         let page = (sound.back (i / 4096) number is).1 in
         let place : low ≡ i / 4096 * 4096 = omega (arith, page, inside) in
         ap (λ (l : List ℕ). get_or l i 0) new_is
-        ∙ over_in 0 low (part (number * 4096) len o.bytes.items) old fits i (omega (arith, place)) (omega (arith, size, place, inside))
-        ∙ get_or-part (number * 4096) len o.bytes.items (i - low) (omega (arith, place, inside))
-        ∙ (let at : number * 4096 + (i - low) ≡ number * 4096 + i % 4096 = omega (arith, place) in ap (λ (k : ℕ). get_or o.bytes.items k 0) at);
+        ∙ over_in 0 low (part start len o.bytes.items) old fits i (omega (arith, place)) (omega (arith, size, place, inside))
+        ∙ get_or-part start len o.bytes.items (i - low) (omega (arith, place, inside))
+        ∙ (let at : start + (i - low) ≡ get_or o.starts.items number 0 + i % 4096 = omega (arith, place, start_is) in ap (λ (k : ℕ). get_or o.bytes.items k 0) at);
     others = λ i other. ap (λ (l : List ℕ). get_or l i 0) new_is ∙ elim (cases_lt i low) [
-      | inl under ↦ over_before 0 low (part (number * 4096) len o.bytes.items) old fits i under
-      | inr from ↦ over_after 0 low (part (number * 4096) len o.bytes.items) old fits i (omega (arith, size, behind i other from))
+      | inl under ↦ over_before 0 low (part start len o.bytes.items) old fits i under
+      | inr from ↦ over_after 0 low (part start len o.bytes.items) old fits i (omega (arith, size, behind i other from))
     ];
   }
 
 pub puts_none : (o : OldPages) (bytes : List ℕ) → PutsPages o 0 bytes bytes
 puts_none o bytes = record {
-  here = λ i inside le. sym (in_slot_free 0 (slot_of o i) o.bytes.items (get_or bytes i 0) (i % 4096) (omega (arith, le)));
+  here = λ i inside le. sym (in_slot_free (pool_byte o.starts.items o.bytes.items) (slot_of o i) (get_or bytes i 0) (i % 4096) (omega (arith, le)));
   others = λ i some. refl;
 }
 
@@ -76,7 +76,7 @@ puts_none o bytes = record {
 pub puts_more : (o : OldPages) (k : ℕ) (first bytes new : List ℕ) → length bytes ≡ length first → PutsPages o k first bytes → PutsPage o k bytes new → PutsPages o (k + 1) first new
 puts_more o k first bytes new size so_far page = record {
   here = λ i inside le. elim (cases_eq (slot_of o i) (suc k)) [
-    | inl same ↦ page.here i (omega (arith, inside)) same ∙ sym (in_slot_used 0 (slot_of o i) k o.bytes.items (get_or first i 0) (i % 4096) same)
+    | inl same ↦ page.here i (omega (arith, inside)) same ∙ sym (in_slot_used (pool_byte o.starts.items o.bytes.items) (slot_of o i) k (get_or first i 0) (i % 4096) same)
     | inr other ↦ page.others i other ∙ so_far.here i inside (less (slot_of o i) le other)
   ];
   others = λ i some. page.others i (λ same. omega (arith, some, same)) ∙ so_far.others i (omega (arith, some));
@@ -110,7 +110,7 @@ not_kept : (o : OldPages) → IsSound o → (i : ℕ) → ((k : ℕ) → k < len
 not_kept o sound i none = one (slot_of o i) refl
   where
     one : (s : ℕ) → slot_of o i ≡ s → is_written o i ≡ false
-    one zero is = in_slot_free false (slot_of o i) o.flags.items false (i % 4096) is
+    one zero is = in_slot_free (pool_flag o.flags.items) (slot_of o i) false (i % 4096) is
     one (suc k) is = let was = sound.back (i / 4096) k is in absurd (none k was.0 was.1)
 
 -- the generator goes over a page
@@ -133,18 +133,18 @@ module _ (o : OldPages) (n room page state : ℕ) (first bytes : List ℕ) (medi
       quiet : (i : ℕ) → page * 4096 ≤ i → i < page * 4096 + 4096 → is_written o i ≡ false
       quiet i from to =
           let here : i / 4096 ≡ page = omega (arith, from, to) in
-          in_slot_free false (slot_of o i) o.flags.items false (i % 4096) (ap (λ (p : ℕ). get_or o.slots.items p 0) here ∙ is)
+          in_slot_free (pool_flag o.flags.items) (slot_of o i) false (i % 4096) (ap (λ (p : ℕ). get_or o.slots.items p 0) here ∙ is)
 
   -- one that is kept
-  module _ (k len result : ℕ) (synced new : List ℕ) (pending : List Bool) (front : page * 4096 < length bytes) (used : get_or o.slots.items page 0 ≡ suc k)
-      (len_is : len ≡ min 4096 (length bytes - page * 4096))
-      (synced_is : synced ≡ part (k * 4096) len o.bytes.items) (pending_is : pending ≡ take len (drop (k * 4096) o.flags.items))
+  module _ (k start len result : ℕ) (synced new : List ℕ) (pending : List Bool) (front : page * 4096 < length bytes) (used : get_or o.slots.items page 0 ≡ suc k)
+      (start_is : start ≡ get_or o.starts.items k 0) (len_is : len ≡ min 4096 (length bytes - page * 4096))
+      (synced_is : synced ≡ part start len o.bytes.items) (pending_is : pending ≡ take len (drop (k * 4096) o.flags.items))
       (new_is : new ≡ over (page * 4096) (mixed state (part (page * 4096) (length synced) bytes) synced pending) bytes) (result_is : result ≡ stirs state pending) where
     number : k < length o.pages.items
     number = (medium.sound.back page k used).0
 
-    bytes_room : k * 4096 + len ≤ length o.bytes.items
-    bytes_room = omega (arith, number, medium.sound.bytes_size)
+    bytes_room : start + len ≤ length o.bytes.items
+    bytes_room = omega (arith, medium.sound.ends k number, start_is)
 
     flags_room : k * 4096 + len ≤ length o.flags.items
     flags_room = omega (arith, number, medium.sound.flags_size)
@@ -158,16 +158,19 @@ module _ (o : OldPages) (n room page state : ℕ) (first bytes : List ℕ) (medi
     slot : (i : ℕ) → i < len → slot_of o (page * 4096 + i) ≡ suc k
     slot i lt = let here : (page * 4096 + i) / 4096 ≡ page = omega (arith, lt) in ap (λ (p : ℕ). get_or o.slots.items p 0) here ∙ used
 
-    place : (i : ℕ) → i < len → k * 4096 + (page * 4096 + i) % 4096 ≡ k * 4096 + i
-    place i lt = omega (arith, lt)
+    byte_place : (i : ℕ) → i < len → get_or o.starts.items k 0 + (page * 4096 + i) % 4096 ≡ start + i
+    byte_place i lt = omega (arith, lt, start_is)
+
+    flag_place : (i : ℕ) → i < len → k * 4096 + (page * 4096 + i) % 4096 ≡ k * 4096 + i
+    flag_place i lt = omega (arith, lt)
 
     synced_part : synced ≡ part (page * 4096) len (old_bytes n first o)
-    synced_part = synced_is ∙ ext_get_or 0 (part (k * 4096) len o.bytes.items) (part (page * 4096) len (old_bytes n first o))
-        (length-part (k * 4096) len o.bytes.items bytes_room ∙ sym (length-part (page * 4096) len (old_bytes n first o) (omega (arith, inside, length-old_bytes n first o))))
-        (λ i lt. let low : i < len = omega (arith, lt, length-part (k * 4096) len o.bytes.items bytes_room) in
-        get_or-part (k * 4096) len o.bytes.items i low
-        ∙ ap (λ (j : ℕ). get_or o.bytes.items j 0) (sym (place i low))
-        ∙ sym (in_slot_used 0 (slot_of o (page * 4096 + i)) k o.bytes.items (get_or first (page * 4096 + i) 0) ((page * 4096 + i) % 4096) (slot i low))
+    synced_part = synced_is ∙ ext_get_or 0 (part start len o.bytes.items) (part (page * 4096) len (old_bytes n first o))
+        (length-part start len o.bytes.items bytes_room ∙ sym (length-part (page * 4096) len (old_bytes n first o) (omega (arith, inside, length-old_bytes n first o))))
+        (λ i lt. let low : i < len = omega (arith, lt, length-part start len o.bytes.items bytes_room) in
+        get_or-part start len o.bytes.items i low
+        ∙ ap (λ (j : ℕ). get_or o.bytes.items j 0) (sym (byte_place i low))
+        ∙ sym (in_slot_used (pool_byte o.starts.items o.bytes.items) (slot_of o (page * 4096 + i)) k (get_or first (page * 4096 + i) 0) ((page * 4096 + i) % 4096) (slot i low))
         ∙ sym (old_bytes_at n first o (page * 4096 + i) (omega (arith, inside, low)))
         ∙ sym (get_or-part (page * 4096) len (old_bytes n first o) i low))
 
@@ -180,14 +183,14 @@ module _ (o : OldPages) (n room page state : ℕ) (first bytes : List ℕ) (medi
         (λ i lt. let low : i < len = omega (arith, lt, pending_size) in
         get_or-take len (drop (k * 4096) o.flags.items) i false low
         ∙ get_or-drop (k * 4096) o.flags.items i false
-        ∙ ap (λ (j : ℕ). get_or o.flags.items j false) (sym (place i low))
-        ∙ sym (in_slot_used false (slot_of o (page * 4096 + i)) k o.flags.items false ((page * 4096 + i) % 4096) (slot i low))
+        ∙ ap (λ (j : ℕ). get_or o.flags.items j false) (sym (flag_place i low))
+        ∙ sym (in_slot_used (pool_flag o.flags.items) (slot_of o (page * 4096 + i)) k false ((page * 4096 + i) % 4096) (slot i low))
         ∙ sym (written_at n o (page * 4096 + i) (omega (arith, inside, low)))
         ∙ sym (get_or-drop (page * 4096) (written_places n o) i false)
         ∙ sym (get_or-take len (drop (page * 4096) (written_places n o)) i false low))
 
     synced_size : length synced ≡ len
-    synced_size = ap length synced_is ∙ length-part (k * 4096) len o.bytes.items bytes_room
+    synced_size = ap length synced_is ∙ length-part start len o.bytes.items bytes_room
 
     bytes_part : part (page * 4096) (length synced) bytes ≡ part (page * 4096) len (filled n 0 bytes)
     bytes_part =

@@ -4,10 +4,10 @@ use Rattle.std.specs.Prelude.{vec_capacity}
 use Rattle.std.proofs.lemmas.Bool.{cases_lt, cases_eq, cases_order}
 use Rattle.std.proofs.lemmas.List.{get_or_past}
 use Rattle.cf_disk.specs.declared.old_pages.OldPages.{OldPages}
-use Rattle.cf_disk.specs.Keeping.{free, in_slot, is_written, slot_of, AreClean, IsSound, Marks}
+use Rattle.cf_disk.specs.Keeping.{free, in_slot, is_written, pool_flag, slot_of, AreClean, IsSound, Marks}
 use Rattle.cf_disk.specs.Splice.{over}
 use Rattle.cf_disk.proofs.ImageLaws.{flags_size, flag_before, flag_in, flag_after}
-use Rattle.cf_disk.proofs.SlotLaws.{free_most, in_slot_at, in_slot_used}
+use Rattle.cf_disk.proofs.SlotLaws.{free_most, in_slot_same, in_slot_used}
 
 -- some places of a page are marked
 module _ (o : OldPages) (page k from to start : ℕ) (sound : IsSound o) (used : get_or o.slots.items page 0 ≡ suc k)
@@ -23,13 +23,13 @@ module _ (o : OldPages) (page k from to start : ℕ) (sound : IsSound o) (used :
 
 module _ (o new : OldPages) (page k from to start : ℕ) (sound : IsSound o) (used : get_or o.slots.items page 0 ≡ suc k)
     (low : page * 4096 ≤ from) (order : from ≤ to) (high : to ≤ page * 4096 + 4096) (start_is : start ≡ k * 4096 + (from - page * 4096))
-    (slots_are : new.slots.items ≡ o.slots.items) (pages_are : new.pages.items ≡ o.pages.items) (bytes_are : new.bytes.items ≡ o.bytes.items)
-    (flags_are : new.flags.items ≡ over start (replicate (to - from) true) o.flags.items) (most_is : new.most ≡ o.most) where
+    (slots_are : new.slots.items ≡ o.slots.items) (pages_are : new.pages.items ≡ o.pages.items) (starts_are : new.starts.items ≡ o.starts.items)
+    (bytes_are : new.bytes.items ≡ o.bytes.items) (flags_are : new.flags.items ≡ over start (replicate (to - from) true) o.flags.items) (most_is : new.most ≡ o.most) where
   room : start + (to - from) ≤ length o.flags.items
   room = mark_room o page k from to start sound used low order high start_is
 
-  flag : (i : ℕ) → is_written new i ≡ in_slot false (slot_of o i) (over start (replicate (to - from) true) o.flags.items) false (i % 4096)
-  flag i = λ j. in_slot false (get_or (slots_are j) (i / 4096) 0) (flags_are j) false (i % 4096)
+  flag : (i : ℕ) → is_written new i ≡ in_slot (pool_flag (over start (replicate (to - from) true) o.flags.items)) (slot_of o i) false (i % 4096)
+  flag i = λ j. in_slot (pool_flag (flags_are j)) (get_or (slots_are j) (i / 4096) 0) false (i % 4096)
 
   slot : (i : ℕ) → i / 4096 ≡ page → slot_of o i ≡ suc k
   slot i same = ap (λ (p : ℕ). get_or o.slots.items p 0) same ∙ used
@@ -47,49 +47,56 @@ module _ (o new : OldPages) (page k from to start : ℕ) (sound : IsSound o) (us
   pub mark_marks : Marks from to o new
   mark_marks = record {
     slots = slots_are;
+    starts = starts_are;
     bytes = bytes_are;
     set = λ i above below.
         let same : i / 4096 ≡ page = omega (arith, above, below) in
         flag i
-        ∙ in_slot_used false (slot_of o i) k (over start (replicate (to - from) true) o.flags.items) false (i % 4096) (slot i same)
+        ∙ in_slot_used (pool_flag (over start (replicate (to - from) true) o.flags.items)) (slot_of o i) k false (i % 4096) (slot i same)
         ∙ flag_in true start (to - from) o.flags.items room (k * 4096 + i % 4096) (omega (arith, above, same)) (omega (arith, above, below, same));
     stays = λ i out. flag i ∙ elim (cases_eq (i / 4096) page) [
       | inl same ↦
-          in_slot_used false (slot_of o i) k (over start (replicate (to - from) true) o.flags.items) false (i % 4096) (slot i same)
+          in_slot_used (pool_flag (over start (replicate (to - from) true) o.flags.items)) (slot_of o i) k false (i % 4096) (slot i same)
           ∙ elim out [
             | inl under ↦ flag_before true start (to - from) o.flags.items room (k * 4096 + i % 4096) (omega (arith, under, same))
             | inr above ↦ flag_after true start (to - from) o.flags.items room (k * 4096 + i % 4096) (omega (arith, above, same))
           ]
-          ∙ sym (in_slot_used false (slot_of o i) k o.flags.items false (i % 4096) (slot i same))
-      | inr other ↦ in_slot_at false (slot_of o i) o.flags.items (over start (replicate (to - from) true) o.flags.items) false (i % 4096) (λ j is. apart i j other is)
+          ∙ sym (in_slot_used (pool_flag o.flags.items) (slot_of o i) k false (i % 4096) (slot i same))
+      | inr other ↦ in_slot_same (pool_flag o.flags.items) (pool_flag (over start (replicate (to - from) true) o.flags.items)) (slot_of o i) false (i % 4096) (λ j is. apart i j other is)
     ];
     most = most_is;
   }
 
-  pub mark_sound : vec_capacity o.slots ≤ vec_capacity new.slots → vec_capacity o.pages ≤ vec_capacity new.pages
+  pub mark_sound : vec_capacity o.slots ≤ vec_capacity new.slots → vec_capacity o.pages ≤ vec_capacity new.pages → vec_capacity o.starts ≤ vec_capacity new.starts
       → vec_capacity o.bytes ≤ vec_capacity new.bytes → vec_capacity o.flags ≤ vec_capacity new.flags → IsSound new
-  mark_sound slots_room pages_room bytes_room flags_room = record {
+  mark_sound slots_room pages_room starts_room bytes_room flags_room = record {
     back = λ p j is.
         let was = sound.back p j (ap (λ (l : List ℕ). get_or l p 0) (sym slots_are) ∙ is) in
         (omega (arith, was.0, ap length pages_are), ap (λ (l : List ℕ). get_or l j 0) pages_are ∙ was.1);
     there = λ j lt. (λ m. get_or (slots_are m) (get_or (pages_are m) j 0) 0) ∙ sound.there j (omega (arith, lt, ap length pages_are));
-    bytes_size = omega (arith, ap length bytes_are, sound.bytes_size, ap length pages_are);
+    starts_size = omega (arith, ap length starts_are, sound.starts_size, ap length pages_are);
+    ends = λ j lt. omega (arith, ap (λ (l : List ℕ). get_or l j 0) starts_are, ap length bytes_are, sound.ends j (omega (arith, lt, ap length pages_are)));
+    zeros = λ i lt. ap (λ (l : List ℕ). get_or l i 0) bytes_are ∙ sound.zeros i lt;
+    bytes_least = omega (arith, ap length bytes_are, sound.bytes_least);
+    bytes_most = omega (arith, ap length bytes_are, sound.bytes_most, ap length pages_are);
     flags_size = omega (arith, ap length flags_are, flags_size true start (to - from) o.flags.items room, sound.flags_size, ap length pages_are);
     few = omega (arith, ap length pages_are, ap free slots_are, ap length slots_are, sound.few);
     fits = omega (arith, ap length slots_are, sound.fits, most_is);
     small = omega (arith, sound.small, most_is);
     slots_room = omega (arith, sound.slots_room, slots_room, most_is);
     pages_room = omega (arith, sound.pages_room, pages_room, most_is);
+    starts_room = omega (arith, sound.starts_room, starts_room, most_is);
     bytes_room = omega (arith, sound.bytes_room, bytes_room, most_is);
     flags_room = omega (arith, sound.flags_room, flags_room, most_is);
   }
 
 pub marks_none : (at : ℕ) (o : OldPages) → Marks at at o o
-marks_none at o = record { slots = refl; bytes = refl; set = λ i above below. absurd (omega (arith, above, below)); stays = λ i out. refl; most = refl }
+marks_none at o = record { slots = refl; starts = refl; bytes = refl; set = λ i above below. absurd (omega (arith, above, below)); stays = λ i out. refl; most = refl }
 
 pub marks_then : (a b c : ℕ) (x y z : OldPages) → a ≤ b → b ≤ c → Marks a b x y → Marks b c y z → Marks a c x z
 marks_then a b c x y z low high p q = record {
   slots = q.slots ∙ p.slots;
+  starts = q.starts ∙ p.starts;
   bytes = q.bytes ∙ p.bytes;
   set = λ i above below. elim (cases_lt i b) [
     | inl under ↦ q.stays i (inl under) ∙ p.set i above under
@@ -121,19 +128,25 @@ clear_clean o slots sound freed others p = elim (others p) [
     one zero is same = same ∙ is
     one (suc k) is same = let was = sound.back p k is in ap (λ (q : ℕ). get_or slots q 0) (sym was.1) ∙ freed k was.0
 
-pub clear_sound : (o new : OldPages) → IsSound o → AreClean new → length new.slots.items ≡ length o.slots.items → new.pages.items ≡ [] → new.bytes.items ≡ [] → new.flags.items ≡ [] → new.most ≡ o.most
-    → vec_capacity o.slots ≤ vec_capacity new.slots → vec_capacity o.pages ≤ vec_capacity new.pages
+pub clear_sound : (o new : OldPages) → IsSound o → AreClean new → length new.slots.items ≡ length o.slots.items → new.pages.items ≡ [] → new.starts.items ≡ []
+    → length new.bytes.items ≡ 4096 → ((i : ℕ) → i < 4096 → get_or new.bytes.items i 0 ≡ get_or o.bytes.items i 0) → new.flags.items ≡ [] → new.most ≡ o.most
+    → vec_capacity o.slots ≤ vec_capacity new.slots → vec_capacity o.pages ≤ vec_capacity new.pages → vec_capacity o.starts ≤ vec_capacity new.starts
     → vec_capacity o.bytes ≤ vec_capacity new.bytes → vec_capacity o.flags ≤ vec_capacity new.flags → IsSound new
-clear_sound o new sound clean size pages_are bytes_are flags_are most_is slots_room pages_room bytes_room flags_room = record {
+clear_sound o new sound clean size pages_are starts_are bytes_size first flags_are most_is slots_room pages_room starts_room bytes_room flags_room = record {
   back = λ p k is. absurd (omega (arith, is, clean p));
   there = λ k lt. absurd (omega (arith, lt, ap length pages_are));
-  bytes_size = omega (arith, ap length bytes_are, ap length pages_are);
+  starts_size = omega (arith, ap length starts_are, ap length pages_are);
+  ends = λ k lt. absurd (omega (arith, lt, ap length pages_are));
+  zeros = λ i lt. first i lt ∙ sound.zeros i lt;
+  bytes_least = omega (arith, bytes_size);
+  bytes_most = omega (arith, bytes_size, ap length pages_are);
   flags_size = omega (arith, ap length flags_are, ap length pages_are);
   few = omega (arith, ap length pages_are, free_most new.slots.items);
   fits = omega (arith, size, sound.fits, most_is);
   small = omega (arith, sound.small, most_is);
   slots_room = omega (arith, sound.slots_room, slots_room, most_is);
   pages_room = omega (arith, sound.pages_room, pages_room, most_is);
+  starts_room = omega (arith, sound.starts_room, starts_room, most_is);
   bytes_room = omega (arith, sound.bytes_room, bytes_room, most_is);
   flags_room = omega (arith, sound.flags_room, flags_room, most_is);
 }

@@ -6,7 +6,7 @@ use Rattle.std.proofs.lemmas.List.{ext_get_or, length-replicate, get_or_past}
 use Rattle.cf_disk.specs.declared.old_pages.OldPages.{OldPages}
 use Rattle.cf_disk.specs.Fronts.{filled}
 use Rattle.cf_disk.specs.Images.{Held, IsWhole, written, durable}
-use Rattle.cf_disk.specs.Keeping.{held_by, in_slot, is_written, old_byte, old_bytes, slot_of, written_places, AreClean, IsMedium, IsSound, KeepsPages, Marks}
+use Rattle.cf_disk.specs.Keeping.{held_by, in_slot, is_written, old_byte, old_bytes, pool_byte, pool_flag, slot_of, written_places, AreClean, IsMedium, IsSound, KeepsPages, Marks}
 use Rattle.cf_disk.specs.Splice.{over, length-over, over_before, over_after}
 use Rattle.cf_disk.proofs.CutSteps.{length-old_bytes, old_bytes_at, length-written_places, written_at, written_quiet}
 use Rattle.cf_disk.proofs.FrontLaws.{length-filled, filled_any, filled_again, filled_over}
@@ -33,10 +33,10 @@ medium_whole n room bytes o medium = record {
 -- where no page is kept
 module _ (n : ℕ) (bytes : List ℕ) (o : OldPages) (clean : AreClean o) (fits : length bytes ≤ n) where
   byte : (now i : ℕ) → old_byte o now i ≡ now
-  byte now i = in_slot_free 0 (slot_of o i) o.bytes.items now (i % 4096) (clean (i / 4096))
+  byte now i = in_slot_free (pool_byte o.starts.items o.bytes.items) (slot_of o i) now (i % 4096) (clean (i / 4096))
 
   flag : (i : ℕ) → is_written o i ≡ false
-  flag i = in_slot_free false (slot_of o i) o.flags.items false (i % 4096) (clean (i / 4096))
+  flag i = in_slot_free (pool_flag o.flags.items) (slot_of o i) false (i % 4096) (clean (i / 4096))
 
   size : length (filled n 0 bytes) ≡ n
   size = omega (arith, length-filled 0 n bytes)
@@ -63,21 +63,28 @@ module _ (n : ℕ) (bytes : List ℕ) (o : OldPages) (clean : AreClean o) (fits 
     quiet = λ i le. flag i;
   }
 
--- a write over bytes that were filled up to its end, whose pages were kept and marked first
-module _ (n room : ℕ) (bytes : List ℕ) (o : OldPages) (medium : IsMedium n room bytes o) (at e : ℕ) (src b1 b2 : List ℕ) (o1 o2 : OldPages)
-    (fits : at + length src ≤ n) (e_is : e ≡ at + length src) (b1_is : b1 ≡ filled e 0 bytes) (keeps : KeepsPages b1 (at / 4096) (div_ceil e 4096) o o1)
-    (marks : Marks at e o1 o2) (b2_is : b2 ≡ over at src b1) where
+-- a write, whose pages were kept before the bytes were filled up to its end, and then marked
+module _ (n room : ℕ) (bytes : List ℕ) (o : OldPages) (medium : IsMedium n room bytes o) (at e : ℕ) (src b0 b1 b2 : List ℕ) (o1 o2 : OldPages)
+    (fits : at + length src ≤ n) (e_is : e ≡ at + length src) (b0_is : b0 ≡ bytes) (keeps : KeepsPages b0 (at / 4096) (div_ceil e 4096) o o1)
+    (b1_is : b1 ≡ filled e 0 bytes) (marks : Marks at e o1 o2) (b2_is : b2 ≡ over at src b1) where
   reaches : at + length src ≤ length b1
   reaches = omega (arith, ap length b1_is, length-filled 0 e bytes)
 
   filled_at : (i : ℕ) → get_or b1 i 0 ≡ get_or bytes i 0
   filled_at i = ap (λ (l : List ℕ). get_or l i 0) b1_is ∙ filled_any 0 e i bytes
 
+  front_at : (i : ℕ) → get_or b0 i 0 ≡ get_or bytes i 0
+  front_at i = ap (λ (l : List ℕ). get_or l i 0) b0_is
+
   at_b2 : (i : ℕ) → get_or b2 i 0 ≡ get_or (over at src b1) i 0
   at_b2 i = ap (λ (l : List ℕ). get_or l i 0) b2_is
 
   old_now : (i : ℕ) → old_byte o2 (get_or b1 i 0) i ≡ old_byte o (get_or bytes i 0) i
-  old_now i = (λ j. in_slot 0 (get_or (marks.slots j) (i / 4096) 0) (marks.bytes j) (get_or b1 i 0) (i % 4096)) ∙ keeps.bytes_stay i ∙ ap (λ (b : ℕ). old_byte o b i) (filled_at i)
+  old_now i =
+      (λ j. in_slot (pool_byte (marks.starts j) (marks.bytes j)) (get_or (marks.slots j) (i / 4096) 0) (get_or b1 i 0) (i % 4096))
+      ∙ ap (λ (b : ℕ). old_byte o1 b i) (filled_at i ∙ sym (front_at i))
+      ∙ keeps.bytes_stay i
+      ∙ ap (λ (b : ℕ). old_byte o b i) (front_at i)
 
   slot_now : (i : ℕ) → at ≤ i → i < e → 0 < slot_of o2 i
   slot_now i from to = omega (arith, ap (λ (l : List ℕ). get_or l (i / 4096) 0) marks.slots, keeps.kept (i / 4096) (omega (arith, from)) (omega (arith, to)))
@@ -86,7 +93,7 @@ module _ (n room : ℕ) (bytes : List ℕ) (o : OldPages) (medium : IsMedium n r
   old_stays i = elim (cases_lt i at) [
     | inl under ↦ ap (λ (b : ℕ). old_byte o2 b i) (at_b2 i ∙ over_before 0 at src b1 reaches i under) ∙ old_now i
     | inr from ↦ elim (cases_lt i e) [
-      | inl below ↦ in_slot_now 0 (slot_of o2 i) o2.bytes.items (get_or b2 i 0) (get_or b1 i 0) (i % 4096) (λ none. absurd (omega (arith, none, slot_now i from below))) ∙ old_now i
+      | inl below ↦ in_slot_now (pool_byte o2.starts.items o2.bytes.items) (slot_of o2 i) (get_or b2 i 0) (get_or b1 i 0) (i % 4096) (λ none. absurd (omega (arith, none, slot_now i from below))) ∙ old_now i
       | inr above ↦ ap (λ (b : ℕ). old_byte o2 b i) (at_b2 i ∙ over_after 0 at src b1 reaches i (omega (arith, above))) ∙ old_now i
     ]
   ]

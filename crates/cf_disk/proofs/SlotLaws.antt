@@ -1,5 +1,5 @@
 -- How the slots of pages go on.
-use Rattle.std.proofs.Common.{◌≡◌, ℕ, zero, suc, ◌+◌, ◌-◌, ◌*◌, ◌<◌, ◌≤◌, set, List, [], ◌∷◌, ◌++◌, length, get_or, replicate, refl, ◌∙◌, ap, arith}
+use Rattle.std.proofs.Common.{◌≡◌, ℕ, zero, suc, ◌+◌, ◌-◌, ◌<◌, ◌≤◌, set, List, [], ◌∷◌, ◌++◌, length, get_or, replicate, refl, ◌∙◌, ap, arith}
 use Rattle.cf_disk.specs.Fronts.{filled}
 use Rattle.cf_disk.specs.Keeping.{free, in_slot}
 
@@ -28,26 +28,22 @@ free_most [] = omega arith
 free_most (zero ∷ slots) = omega (arith, free_most slots)
 free_most (suc n ∷ slots) = omega (arith, free_most slots)
 
--- what a slot shows of a pool that is longer is the same
-module _ {X : Type 0} (d : X) where
-  pub in_slot_same : (s n : ℕ) (pool more : List X) (now : X) (at : ℕ) → at < 4096 → ((k : ℕ) → s ≡ suc k → k < n) → ((j : ℕ) → j < n * 4096 → get_or more j d ≡ get_or pool j d) → in_slot d s more now at ≡ in_slot d s pool now at
-  in_slot_same zero n pool more now at lt used same = refl
-  in_slot_same (suc k) n pool more now at lt used same = let low : k < n = used k refl in same (k * 4096 + at) (omega arith)
-
+-- what a slot shows
+module _ {X : Type 0} (pool : ℕ → ℕ → X) where
   -- what is there now is not looked at where there is a slot
-  pub in_slot_now : (s : ℕ) (pool : List X) (now then : X) (at : ℕ) → (s ≡ 0 → now ≡ then) → in_slot d s pool now at ≡ in_slot d s pool then at
-  in_slot_now zero pool now then at same = same refl
-  in_slot_now (suc k) pool now then at same = refl
+  pub in_slot_now : (s : ℕ) (now then : X) (at : ℕ) → (s ≡ 0 → now ≡ then) → in_slot pool s now at ≡ in_slot pool s then at
+  in_slot_now zero now then at same = same refl
+  in_slot_now (suc k) now then at same = refl
 
-  pub in_slot_free : (s : ℕ) (pool : List X) (now : X) (at : ℕ) → s ≡ 0 → in_slot d s pool now at ≡ now
-  in_slot_free zero pool now at is = refl
-  in_slot_free (suc k) pool now at is = absurd (omega arith)
+  pub in_slot_free : (s : ℕ) (now : X) (at : ℕ) → s ≡ 0 → in_slot pool s now at ≡ now
+  in_slot_free zero now at is = refl
+  in_slot_free (suc k) now at is = absurd (omega arith)
 
-  pub in_slot_used : (s k : ℕ) (pool : List X) (now : X) (at : ℕ) → s ≡ suc k → in_slot d s pool now at ≡ get_or pool (k * 4096 + at) d
-  in_slot_used zero k pool now at is = absurd (omega arith)
-  in_slot_used (suc n) k pool now at is = let same : n ≡ k = omega arith in ap (λ (m : ℕ). get_or pool (m * 4096 + at) d) same
+  pub in_slot_used : (s k : ℕ) (now : X) (at : ℕ) → s ≡ suc k → in_slot pool s now at ≡ pool k at
+  in_slot_used zero k now at is = absurd (omega arith)
+  in_slot_used (suc n) k now at is = let same : n ≡ k = omega arith in ap (λ (m : ℕ). pool m at) same
 
   -- what a slot shows of a pool that changed elsewhere is the same
-  pub in_slot_at : (s : ℕ) (pool more : List X) (now : X) (at : ℕ) → ((k : ℕ) → s ≡ suc k → get_or more (k * 4096 + at) d ≡ get_or pool (k * 4096 + at) d) → in_slot d s more now at ≡ in_slot d s pool now at
-  in_slot_at zero pool more now at same = refl
-  in_slot_at (suc k) pool more now at same = same k refl
+  pub in_slot_same : (more : ℕ → ℕ → X) (s : ℕ) (now : X) (at : ℕ) → ((k : ℕ) → s ≡ suc k → more k at ≡ pool k at) → in_slot more s now at ≡ in_slot pool s now at
+  in_slot_same more zero now at same = refl
+  in_slot_same more (suc k) now at same = same k refl

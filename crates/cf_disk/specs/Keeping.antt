@@ -9,18 +9,26 @@ use Rattle.cf_disk.specs.declared.old_pages.OldPages.{OldPages}
 abbrev pub slot_of : OldPages → ℕ → ℕ
 slot_of o i = get_or o.slots.items (i / 4096) 0
 
+-- What a pool has for a place of a page, by the number of the page in it and the place within the page: a byte, which lies behind the
+-- start of its page, and a flag.
+abbrev pub pool_byte : List ℕ → List ℕ → ℕ → ℕ → ℕ
+pool_byte starts bytes k at = get_or bytes (get_or starts k 0 + at) 0
+
+abbrev pub pool_flag : List Bool → ℕ → ℕ → Bool
+pool_flag flags k at = get_or flags (k * 4096 + at) false
+
 -- what a pool has for a place of a page, by the page's slot; what is there now where it has none
-abbrev pub in_slot : {X : Type 0} → X → ℕ → List X → X → ℕ → X
-in_slot d zero pool now at = now
-in_slot d (suc k) pool now at = get_or pool (k * 4096 + at) d
+abbrev pub in_slot : {X : Type 0} → (ℕ → ℕ → X) → ℕ → X → ℕ → X
+in_slot pool zero now at = now
+in_slot pool (suc k) now at = pool k at
 
 -- the byte of the last sync at a place, by the byte that is there now
 abbrev pub old_byte : OldPages → ℕ → ℕ → ℕ
-old_byte o now i = in_slot 0 (slot_of o i) o.bytes.items now (i % 4096)
+old_byte o now i = in_slot (pool_byte o.starts.items o.bytes.items) (slot_of o i) now (i % 4096)
 
 -- whether a place was written since
 abbrev pub is_written : OldPages → ℕ → Bool
-is_written o i = in_slot false (slot_of o i) o.flags.items false (i % 4096)
+is_written o i = in_slot (pool_flag o.flags.items) (slot_of o i) false (i % 4096)
 
 -- the bytes of the last sync at n places
 abbrev pub old_bytes : ℕ → List ℕ → OldPages → List ℕ
@@ -40,19 +48,34 @@ free [] = 0
 free (zero ∷ slots) = suc (free slots)
 free (suc k ∷ slots) = free slots
 
--- Slots and pages name each other, the pool has the pages one behind the other, and there is room for each page of the disk.
+-- Slots and pages name each other. The flags of the pages lie one behind the other. The bytes are a page of zeros and at most one page
+-- more for each, and each page starts where all its bytes are there. There is room for each page of the disk.
 pub record IsSound (o : OldPages) : Type 0 where
   pub back : (p k : ℕ) → get_or o.slots.items p 0 ≡ suc k → (k < length o.pages.items) × (get_or o.pages.items k 0 ≡ p)
   pub there : (k : ℕ) → k < length o.pages.items → get_or o.slots.items (get_or o.pages.items k 0) 0 ≡ suc k
-  pub bytes_size : length o.bytes.items ≡ length o.pages.items * 4096
+  pub starts_size : length o.starts.items ≡ length o.pages.items
+  pub ends : (k : ℕ) → k < length o.pages.items → get_or o.starts.items k 0 + 4096 ≤ length o.bytes.items
+  pub zeros : (i : ℕ) → i < 4096 → get_or o.bytes.items i 0 ≡ 0
+  pub bytes_least : 4096 ≤ length o.bytes.items
+  pub bytes_most : length o.bytes.items ≤ length o.pages.items * 4096 + 4096
   pub flags_size : length o.flags.items ≡ length o.pages.items * 4096
   pub few : length o.pages.items + free o.slots.items ≤ length o.slots.items
   pub fits : length o.slots.items ≤ o.most
-  pub small : o.most * 4096 < 2 ^ 64
+  pub small : o.most * 4096 + 4096 < 2 ^ 64
   pub slots_room : o.most ≤ vec_capacity o.slots
   pub pages_room : o.most ≤ vec_capacity o.pages
-  pub bytes_room : o.most * 4096 ≤ vec_capacity o.bytes
+  pub starts_room : o.most ≤ vec_capacity o.starts
+  pub bytes_room : o.most * 4096 + 4096 ≤ vec_capacity o.bytes
   pub flags_room : o.most * 4096 ≤ vec_capacity o.flags
+
+-- A page of these bytes is in a pool from a start on. What was there stays, and nothing is added for a page that lies behind the bytes.
+pub record StoresPage (bytes : List ℕ) (page start : ℕ) (old new : List ℕ) : Type 0 where
+  pub here : (i : ℕ) → i < 4096 → get_or new (start + i) 0 ≡ get_or bytes (page * 4096 + i) 0
+  pub ends : start + 4096 ≤ length new
+  pub stays : (i : ℕ) → i < length old → get_or new i 0 ≡ get_or old i 0
+  pub least : length old ≤ length new
+  pub most : length new ≤ length old + 4096
+  pub shared : length bytes ≤ page * 4096 → length new ≡ length old
 
 -- no page is kept
 abbrev pub AreClean : OldPages → Type 0
@@ -69,6 +92,7 @@ pub record KeepsPages (bytes : List ℕ) (low high : ℕ) (old new : OldPages) :
 -- The places from one up to another are written. The bytes of the last sync stay.
 pub record Marks (from to : ℕ) (old new : OldPages) : Type 0 where
   pub slots : new.slots.items ≡ old.slots.items
+  pub starts : new.starts.items ≡ old.starts.items
   pub bytes : new.bytes.items ≡ old.bytes.items
   pub set : (i : ℕ) → from ≤ i → i < to → is_written new i ≡ true
   pub stays : (i : ℕ) → (i < from) ⊎ (to ≤ i) → is_written new i ≡ is_written old i
@@ -90,7 +114,7 @@ pub record IsMedium (n room : ℕ) (bytes : List ℕ) (o : OldPages) : Type 0 wh
 
 -- The synced bytes of the page with a number in the pool are put over the others.
 pub record PutsPage (o : OldPages) (number : ℕ) (old new : List ℕ) : Type 0 where
-  pub here : (i : ℕ) → i < length old → slot_of o i ≡ suc number → get_or new i 0 ≡ get_or o.bytes.items (number * 4096 + i % 4096) 0
+  pub here : (i : ℕ) → i < length old → slot_of o i ≡ suc number → get_or new i 0 ≡ pool_byte o.starts.items o.bytes.items number (i % 4096)
   pub others : (i : ℕ) → (slot_of o i ≡ suc number → ⊥) → get_or new i 0 ≡ get_or old i 0
 
 -- those of the first n pages of the pool

@@ -78,8 +78,9 @@ impl Medium {
     {
         let _ = &self.size;
         let end = at + bytes.len();
-        fill_up(&mut self.bytes, end);
+        // Before the front grows, as pages behind it need no copy.
         self.pages.keep(&self.bytes, at, end);
+        fill_up(&mut self.bytes, end);
         self.pages.mark(at, end);
         put_vec(&mut self.bytes, at, bytes);
     }

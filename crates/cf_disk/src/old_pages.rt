@@ -1,26 +1,30 @@
 //! The pages of a disk in memory that were written since the last sync, as they were then.
 
-ghost use Rattle.std.specs.Prelude.{◌≡◌, ◌⊎◌, ◌≤◌, ◌<◌, ◌+◌, ◌*◌, ◌/◌, ℕ, length, get_or, set, IfOk, vec_capacity};
+ghost use Rattle.std.specs.Prelude.{◌≡◌, ◌⊎◌, ◌≤◌, ◌<◌, ◌+◌, ◌*◌, ◌/◌, ◌^◌, ℕ, length, get_or, set, IfOk, vec_capacity};
 ghost use Rattle.std.specs.Int.{div_ceil};
 ghost use Rattle.cf_disk.specs.Fronts.{filled};
-ghost use Rattle.cf_disk.specs.Keeping.{AreClean, IsSound, KeepsPages, Marks};
+ghost use Rattle.cf_disk.specs.Keeping.{AreClean, IsSound, KeepsPages, Marks, StoresPage};
 
-use crate::patches::{append, fill_up, fill_up_flags, fill_up_slots, mark_vec};
+use crate::patches::{append, cut_back, fill_up, fill_up_flags, fill_up_slots, mark_vec, zeros_in};
 use cf_base::OutOfMemory;
 use std::alloc::Global;
 
-/// The bytes of a page.
+/// How many bytes a page has.
 pub(crate) const PAGE: usize = 4096;
 
 /// The bytes that pages had at the last sync, and a flag for each byte of them that was written since. They lie in a pool,
-/// one page behind the other in the order in which they were first written. So they touch no more memory than the most
-/// that was ever pending at once. Room for all pages of the disk is taken at the start.
+/// one page behind the other in the order in which they were first written. Pages that lay wholly behind the front of the
+/// disk were zero, and share one page of zeros. So beside that page the pool touches no more memory than the most that was
+/// ever pending at once. Room for all pages of the disk is taken at the start.
 #[derive(Drop)]
 pub(crate) struct OldPages {
     // For each page of the front of the disk 0, or one more than its number in the pool.
     pub(crate) slots: Vec<usize>,
     // The pages of the pool.
     pub(crate) pages: Vec<usize>,
+    // For each page of the pool the place where its bytes begin.
+    pub(crate) starts: Vec<usize>,
+    // A page of zeros, and behind it the bytes of the pages that have some of their own.
     pub(crate) bytes: Vec<u8>,
     pub(crate) flags: Vec<bool>,
     // How many pages the disk has at most.
@@ -74,6 +78,28 @@ fn free_slots_vec(slots: &mut Vec<usize>, pages: &Vec<usize>)
     free_slots(slots, pages);
 }
 
+// Puts the bytes of a page, which are zero behind the last, into a pool, and returns where they begin there. The pool begins
+// with a page of zeros, which all pages share that lie wholly behind the bytes.
+fn store_page(pool: &mut Vec<u8>, bytes: &[u8], page: usize) -> usize
+    requires zeros { (i : ℕ) → i < 4096 → get_or pool.old.items i 0 ≡ 0 }
+    requires least { 4096 ≤ length pool.old.items }
+    requires small { page * 4096 + 4096 < 2 ^ 64 }
+    requires fits { length pool.old.items + 4096 < 2 ^ 64 }
+    requires room { length pool.old.items + 4096 ≤ vec_capacity pool.old }
+    ensures stores { StoresPage bytes.now page result pool.old.items pool.new.items }
+    ensures capacity { vec_capacity pool.old ≤ vec_capacity pool.new }
+{
+    let low = page * PAGE;
+    if low >= bytes.len() {
+        return 0;
+    }
+    let high = (low + PAGE).min(bytes.len());
+    let start = pool.len();
+    append(pool, &bytes[low..high]);
+    fill_up(pool, start + PAGE);
+    start
+}
+
 impl OldPages {
     /// No page is kept. OutOfMemory also where the pages have no number of bytes that a machine knows.
     pub(crate) fn new(alloc: Global, size: usize) -> Result<OldPages, OutOfMemory>
@@ -82,13 +108,14 @@ impl OldPages {
         ensures inside { IfOk result (λ o. size < o.most * 4096) }
     {
         let most = size / PAGE + 1;
-        let Some(room) = most.checked_mul(PAGE) else {
+        let Some(room) = (most + 1).checked_mul(PAGE) else {
             return Err(OutOfMemory);
         };
         Ok(OldPages {
             slots: Vec::with_capacity(alloc, most)?,
             pages: Vec::with_capacity(alloc, most)?,
-            bytes: Vec::with_capacity(alloc, room)?,
+            starts: Vec::with_capacity(alloc, most)?,
+            bytes: zeros_in(alloc, PAGE, room)?,
             flags: Vec::with_capacity(alloc, room)?,
             most,
         })
@@ -99,16 +126,13 @@ impl OldPages {
         requires sound { IsSound self.old }
         requires reached { page < length self.old.slots.items }
         requires is_free { get_or self.old.slots.items page 0 ≡ 0 }
-        requires front { page * 4096 ≤ length bytes.now }
         ensures sound { IsSound self.new }
         ensures keeps { KeepsPages bytes.now page (page + 1) self.old self.new }
     {
-        let low = page * PAGE;
-        let high = (low + PAGE).min(bytes.len());
         self.pages.push_reserved(page);
         let slot = self.pages.len();
-        append(&mut self.bytes, &bytes[low..high]);
-        fill_up(&mut self.bytes, slot * PAGE);
+        let start = store_page(&mut self.bytes, bytes, page);
+        self.starts.push_reserved(start);
         fill_up_flags(&mut self.flags, slot * PAGE);
         set_slot_vec(&mut self.slots, page, slot);
     }
@@ -119,7 +143,7 @@ impl OldPages {
         requires most { pages ≤ self.old.most }
         ensures sound { IsSound self.new }
         ensures slots { self.new.slots.items ≡ filled pages 0 self.old.slots.items }
-        ensures others { (self.new.pages.items ≡ self.old.pages.items) × (self.new.bytes.items ≡ self.old.bytes.items) × (self.new.flags.items ≡ self.old.flags.items) × (self.new.most ≡ self.old.most) }
+        ensures others { (self.new.pages.items ≡ self.old.pages.items) × (self.new.starts.items ≡ self.old.starts.items) × (self.new.bytes.items ≡ self.old.bytes.items) × (self.new.flags.items ≡ self.old.flags.items) × (self.new.most ≡ self.old.most) }
     {
         fill_up_slots(&mut self.slots, pages);
     }
@@ -128,7 +152,6 @@ impl OldPages {
     fn keep_page(&mut self, bytes: &[u8], page: usize)
         requires sound { IsSound self.old }
         requires most { page < self.old.most }
-        requires front { page * 4096 ≤ length bytes.now }
         ensures sound { IsSound self.new }
         ensures keeps { KeepsPages bytes.now page (page + 1) self.old self.new }
     {
@@ -138,10 +161,9 @@ impl OldPages {
         }
     }
 
-    /// Keeps each page with a place from one up to another as its bytes are now, unless it is kept.
+    /// Keeps each page with a place from one up to another as its bytes are now (zero behind the last), unless it is kept.
     pub(crate) fn keep(&mut self, bytes: &[u8], at: usize, end: usize)
         requires sound { IsSound self.old }
-        requires front { end ≤ length bytes.now }
         requires inside { end < self.old.most * 4096 }
         ensures sound { IsSound self.new }
         ensures keeps { KeepsPages bytes.now (at / 4096) (div_ceil end 4096) self.old self.new }
@@ -194,7 +216,8 @@ impl OldPages {
     {
         free_slots_vec(&mut self.slots, &self.pages);
         self.pages.clear();
-        self.bytes.clear();
+        self.starts.clear();
+        cut_back(&mut self.bytes, PAGE);
         self.flags.clear();
     }
 }

@@ -1,6 +1,6 @@
 //! Parts of vectors: bytes put over others, and flags set.
 
-ghost use Rattle.std.specs.Prelude.{◌≡◌, ◌≤◌, ◌<◌, ◌+◌, ◌^◌, ◌++◌, length, replicate, false, IfOk, vec_capacity};
+ghost use Rattle.std.specs.Prelude.{◌≡◌, ◌≤◌, ◌<◌, ◌+◌, ◌^◌, ◌++◌, ℕ, length, get_or, replicate, false, IfOk, vec_capacity};
 ghost use Rattle.cf_disk.specs.Disk.{part};
 ghost use Rattle.cf_disk.specs.Fronts.{filled};
 ghost use Rattle.cf_disk.specs.Splice.{over};
@@ -13,6 +13,18 @@ pub(crate) fn zeros(alloc: Global, n: usize) -> Result<Vec<u8>, OutOfMemory>
     ensures { IfOk result (λ v. v.items ≡ replicate n 0) }
 {
     Ok(vec![in alloc; 0; n]?)
+}
+
+// So many zeros, in room for more bytes.
+pub(crate) fn zeros_in(alloc: Global, n: usize, room: usize) -> Result<Vec<u8>, OutOfMemory>
+    requires { n ≤ room }
+    ensures size { IfOk result (λ v. length v.items ≡ n) }
+    ensures zeros { IfOk result (λ v. (i : ℕ) → get_or v.items i 0 ≡ 0) }
+    ensures room { IfOk result (λ v. room ≤ vec_capacity v) }
+{
+    let mut bytes = Vec::with_capacity(alloc, room)?;
+    fill_up(&mut bytes, n);
+    Ok(bytes)
 }
 
 // Puts bytes over others at a place.
@@ -64,6 +76,16 @@ pub(crate) fn append(bytes: &mut Vec<u8>, src: &[u8])
     ensures capacity { vec_capacity bytes.old ≤ vec_capacity bytes.new }
 {
     bytes.extend_from_slice(src).unwrap();
+}
+
+// The bytes before a place alone.
+pub(crate) fn cut_back(bytes: &mut Vec<u8>, n: usize)
+    requires { n ≤ length bytes.old.items }
+    ensures size { length bytes.new.items ≡ n }
+    ensures stays { (i : ℕ) → i < n → get_or bytes.new.items i 0 ≡ get_or bytes.old.items i 0 }
+    ensures capacity { vec_capacity bytes.old ≤ vec_capacity bytes.new }
+{
+    bytes.truncate(n);
 }
 
 // Zeros behind the bytes, where they are fewer.

@@ -67,13 +67,14 @@ fn mix_page(bytes: &mut [u8], pages: &OldPages, page: usize, state: u64) -> u64
         return state;
     }
     let low = page * PAGE;
-    let start = (slot - 1) * PAGE;
-    let end = start + PAGE.min(bytes.len() - low);
+    let len = PAGE.min(bytes.len() - low);
+    let start = number_at(&pages.starts, slot - 1);
+    let flags = (slot - 1) * PAGE;
     mix_part(
         bytes,
         low,
-        &pages.bytes[start..end],
-        &pages.flags[start..end],
+        &pages.bytes[start..start + len],
+        &pages.flags[flags..flags + len],
         state,
     )
 }
@@ -121,7 +122,7 @@ fn drop_page(bytes: &mut [u8], pages: &OldPages, number: usize)
     ensures { PutsPage pages.now number bytes.old bytes.new }
 {
     let low = (number_at(&pages.pages, number) * PAGE).min(bytes.len());
-    let start = number * PAGE;
+    let start = number_at(&pages.starts, number);
     let end = start + PAGE.min(bytes.len() - low);
     put(bytes, low, &pages.bytes[start..end]);
 }

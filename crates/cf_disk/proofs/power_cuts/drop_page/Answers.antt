@@ -18,7 +18,8 @@ overflow_mul-number_at c =
 pub returns : goal.returns
 returns c =
     let o = c.args.pages.now in
-    let long : c.args.number * 4096 + c.min.result - c.args.number * 4096 ≡ c.min.result = omega arith in
-    put_page o c.args.number c.min-low.result c.min.result c.args.bytes.now c.put.new.bytes c.requires.sound c.requires.number
+    let start : c.number_at-start.result ≡ get_or o.starts.items c.args.number 0 = c.number_at-start.ensures ∙ ap (λ (l : List ℕ). get_or l c.args.number 0) c.deref-2.ensures.value in
+    let long : c.number_at-start.result + c.min.result - c.number_at-start.result ≡ c.min.result = omega arith in
+    put_page o c.args.number c.number_at-start.result c.min-low.result c.min.result c.args.bytes.now c.put.new.bytes c.requires.sound c.requires.number start
     (c.min-low.ensures ∙ ap (λ (p : ℕ). min (p * 4096) (length c.args.bytes.now)) (c.number_at.ensures ∙ ap (λ (l : List ℕ). get_or l c.args.number 0) c.deref.ensures.value))
-    c.min.ensures (c.put.ensures ∙ (λ j. over c.min-low.result (take (long j) (drop (c.args.number * 4096) (c.deref-2.ensures.value j))) c.args.bytes.now))
+    c.min.ensures (c.put.ensures ∙ (λ j. over c.min-low.result (take (long j) (drop c.number_at-start.result (c.deref-3.ensures.value j))) c.args.bytes.now))

@@ -1,7 +1,6 @@
-use Rattle.std.proofs.Common.{◌+◌, ℕ, List, length, refl, sym, ◌∙◌, ap, subst, arith}
+use Rattle.std.proofs.Common.{◌+◌, length, refl, sym, ◌∙◌, ap, subst, arith}
 use Rattle.std.specs.Prelude.{vec_capacity}
 use Rattle.cf_disk.specs.Images.{Held, IsWhole, written}
-use Rattle.cf_disk.specs.Splice.{over}
 use Rattle.cf_disk.proofs.FrontLaws.{length-filled}
 use Rattle.cf_disk.proofs.ImageLaws.{written_whole}
 use Rattle.cf_disk.proofs.MediumLaws.{now_size, now_whole, written_held, written_medium}
@@ -19,10 +18,6 @@ fill_up-requires c =
 
 pub keep-requires-clause-sound : goal.keep-requires-clause-sound
 keep-requires-clause-sound c = c.self.invariant.sound
-
-pub keep-requires-clause-front : goal.keep-requires-clause-front
-keep-requires-clause-front c =
-    omega (arith, ap length c.deref.ensures.value, ap length c.fill_up.ensures.items, length-filled 0 (c.args.at + length c.args.bytes.now) c.self.inside.bytes.items)
 
 pub keep-requires-clause-inside : goal.keep-requires-clause-inside
 keep-requires-clause-inside c =
@@ -48,8 +43,8 @@ invariant_of-self c =
     let i = c.self.inside in
     let size = now_size i.size (vec_capacity i.bytes) i.bytes.items i.pages c.self.invariant c.args.self.now c.self.view_is in
     written_medium i.size (vec_capacity i.bytes) i.bytes.items i.pages c.self.invariant c.args.at (c.args.at + length c.args.bytes.now) c.args.bytes.now
-    c.deref.result.now c.put_vec.new.bytes.items c.keep.new.self c.mark.new.self (omega (arith, size, c.requires)) refl (c.deref.ensures.value ∙ c.fill_up.ensures.items)
-    c.keep.ensures.keeps c.mark.ensures.marks (c.put_vec.ensures.items ∙ ap (λ (l : List ℕ). over c.args.at c.args.bytes.now l) (sym c.deref.ensures.value))
+    c.deref.result.now c.fill_up.new.bytes.items c.put_vec.new.bytes.items c.keep.new.self c.mark.new.self (omega (arith, size, c.requires)) refl c.deref.ensures.value
+    c.keep.ensures.keeps c.fill_up.ensures.items c.mark.ensures.marks c.put_vec.ensures.items
     (vec_capacity c.put_vec.new.bytes) c.mark.ensures.sound (omega (arith, c.self.invariant.room_is, c.fill_up.ensures.capacity, c.put_vec.ensures.capacity))
 
 pub returns-clause-is : goal.returns-clause-is
@@ -57,8 +52,8 @@ returns-clause-is c =
     let i = c.self.inside in
     let size = now_size i.size (vec_capacity i.bytes) i.bytes.items i.pages c.self.invariant c.args.self.now c.self.view_is in
     written_held i.size (vec_capacity i.bytes) i.bytes.items i.pages c.self.invariant c.args.at (c.args.at + length c.args.bytes.now) c.args.bytes.now
-    c.deref.result.now c.put_vec.new.bytes.items c.keep.new.self c.mark.new.self (omega (arith, size, c.requires)) refl (c.deref.ensures.value ∙ c.fill_up.ensures.items)
-    c.keep.ensures.keeps c.mark.ensures.marks (c.put_vec.ensures.items ∙ ap (λ (l : List ℕ). over c.args.at c.args.bytes.now l) (sym c.deref.ensures.value))
+    c.deref.result.now c.fill_up.new.bytes.items c.put_vec.new.bytes.items c.keep.new.self c.mark.new.self (omega (arith, size, c.requires)) refl c.deref.ensures.value
+    c.keep.ensures.keeps c.fill_up.ensures.items c.mark.ensures.marks c.put_vec.ensures.items
     ∙ ap (λ (h : Held). written c.args.at c.args.bytes.now h) c.self.view_is
 
 pub returns-clause-whole : goal.returns-clause-whole
@@ -68,7 +63,7 @@ returns-clause-whole c =
     let size = now_size i.size (vec_capacity i.bytes) i.bytes.items i.pages c.self.invariant c.args.self.now c.self.view_is in
     let is =
     written_held i.size (vec_capacity i.bytes) i.bytes.items i.pages c.self.invariant c.args.at (c.args.at + length c.args.bytes.now) c.args.bytes.now
-    c.deref.result.now c.put_vec.new.bytes.items c.keep.new.self c.mark.new.self (omega (arith, size, c.requires)) refl (c.deref.ensures.value ∙ c.fill_up.ensures.items)
-    c.keep.ensures.keeps c.mark.ensures.marks (c.put_vec.ensures.items ∙ ap (λ (l : List ℕ). over c.args.at c.args.bytes.now l) (sym c.deref.ensures.value))
+    c.deref.result.now c.fill_up.new.bytes.items c.put_vec.new.bytes.items c.keep.new.self c.mark.new.self (omega (arith, size, c.requires)) refl c.deref.ensures.value
+    c.keep.ensures.keeps c.fill_up.ensures.items c.mark.ensures.marks c.put_vec.ensures.items
     ∙ ap (λ (h : Held). written c.args.at c.args.bytes.now h) c.self.view_is in
     (whole, subst (λ (h : Held). IsWhole h) (sym is) (written_whole c.args.at c.args.bytes.now c.args.self.now c.requires whole))

@@ -29,7 +29,7 @@ returns-clause-sound c =
     let used : get_or o.slots.items c.args.page 0 ≡ suc (c.number_at.result - 1) =
     omega (arith, c.number_at.ensures, ap (λ (l : List ℕ). get_or l c.args.page 0) c.deref.ensures.value, c.requires.kept) in
     mark_sound o _ c.args.page (c.number_at.result - 1) c.args.from c.args.to _ c.requires.sound used c.requires.low c.requires.order c.requires.high refl
-    refl refl refl c.mark_vec.ensures.items refl (omega arith) (omega arith) (omega arith) (omega (arith, c.mark_vec.ensures.capacity))
+    refl refl refl refl c.mark_vec.ensures.items refl (omega arith) (omega arith) (omega arith) (omega arith) (omega (arith, c.mark_vec.ensures.capacity))
 
 pub returns-clause-marks : goal.returns-clause-marks
 returns-clause-marks c =
@@ -37,4 +37,4 @@ returns-clause-marks c =
     let used : get_or o.slots.items c.args.page 0 ≡ suc (c.number_at.result - 1) =
     omega (arith, c.number_at.ensures, ap (λ (l : List ℕ). get_or l c.args.page 0) c.deref.ensures.value, c.requires.kept) in
     mark_marks o _ c.args.page (c.number_at.result - 1) c.args.from c.args.to _ c.requires.sound used c.requires.low c.requires.order c.requires.high refl
-    refl refl refl c.mark_vec.ensures.items refl
+    refl refl refl refl c.mark_vec.ensures.items refl
