@@ -80,7 +80,7 @@ impl Medium {
         let end = at + bytes.len();
         // Before the front grows, as pages behind it need no copy.
         self.pages.keep(&self.bytes, at, end);
-        fill_up(&mut self.bytes, end);
+        fill_up(&mut self.bytes, end, 0);
         self.pages.mark(at, end);
         put_vec(&mut self.bytes, at, bytes);
     }

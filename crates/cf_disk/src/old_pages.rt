@@ -5,7 +5,7 @@ ghost use Rattle.std.specs.Int.{div_ceil};
 ghost use Rattle.cf_disk.specs.Fronts.{filled};
 ghost use Rattle.cf_disk.specs.Keeping.{AreClean, IsSound, KeepsPages, Marks, StoresPage};
 
-use crate::patches::{append, cut_back, fill_up, fill_up_flags, fill_up_slots, mark_vec, zeros_in};
+use crate::patches::{append, cut_back, fill_up, mark_vec, zeros_in};
 use cf_base::OutOfMemory;
 use std::alloc::Global;
 
@@ -96,7 +96,7 @@ fn store_page(pool: &mut Vec<u8>, bytes: &[u8], page: usize) -> usize
     let high = (low + PAGE).min(bytes.len());
     let start = pool.len();
     append(pool, &bytes[low..high]);
-    fill_up(pool, start + PAGE);
+    fill_up(pool, start + PAGE, 0);
     start
 }
 
@@ -133,7 +133,7 @@ impl OldPages {
         let slot = self.pages.len();
         let start = store_page(&mut self.bytes, bytes, page);
         self.starts.push_reserved(start);
-        fill_up_flags(&mut self.flags, slot * PAGE);
+        fill_up(&mut self.flags, slot * PAGE, false);
         set_slot_vec(&mut self.slots, page, slot);
     }
 
@@ -145,7 +145,7 @@ impl OldPages {
         ensures slots { self.new.slots.items ≡ filled pages 0 self.old.slots.items }
         ensures others { (self.new.pages.items ≡ self.old.pages.items) × (self.new.starts.items ≡ self.old.starts.items) × (self.new.bytes.items ≡ self.old.bytes.items) × (self.new.flags.items ≡ self.old.flags.items) × (self.new.most ≡ self.old.most) }
     {
-        fill_up_slots(&mut self.slots, pages);
+        fill_up(&mut self.slots, pages, 0);
     }
 
     // Keeps a page, unless it is kept.

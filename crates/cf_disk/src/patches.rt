@@ -1,6 +1,6 @@
 //! Parts of vectors: bytes put over others, and flags set.
 
-ghost use Rattle.std.specs.Prelude.{◌≡◌, ◌≤◌, ◌<◌, ◌+◌, ◌^◌, ◌++◌, ℕ, length, get_or, replicate, false, IfOk, vec_capacity};
+ghost use Rattle.std.specs.Prelude.{◌≡◌, ◌≤◌, ◌<◌, ◌+◌, ◌^◌, ◌++◌, ℕ, length, get_or, replicate, IfOk, vec_capacity};
 ghost use Rattle.cf_disk.specs.Disk.{part};
 ghost use Rattle.cf_disk.specs.Fronts.{filled};
 ghost use Rattle.cf_disk.specs.Splice.{over};
@@ -15,7 +15,7 @@ pub(crate) fn zeros(alloc: Global, n: usize) -> Result<Vec<u8>, OutOfMemory>
     Ok(vec![in alloc; 0; n]?)
 }
 
-// So many zeros, in room for more bytes.
+// n zeros, with room for a number of bytes.
 pub(crate) fn zeros_in(alloc: Global, n: usize, room: usize) -> Result<Vec<u8>, OutOfMemory>
     requires { n ≤ room }
     ensures size { IfOk result (λ v. length v.items ≡ n) }
@@ -23,7 +23,7 @@ pub(crate) fn zeros_in(alloc: Global, n: usize, room: usize) -> Result<Vec<u8>, 
     ensures room { IfOk result (λ v. room ≤ vec_capacity v) }
 {
     let mut bytes = Vec::with_capacity(alloc, room)?;
-    fill_up(&mut bytes, n);
+    fill_up(&mut bytes, n, 0);
     Ok(bytes)
 }
 
@@ -78,7 +78,7 @@ pub(crate) fn append(bytes: &mut Vec<u8>, src: &[u8])
     bytes.extend_from_slice(src).unwrap();
 }
 
-// The bytes before a place alone.
+// Keeps the first n bytes alone.
 pub(crate) fn cut_back(bytes: &mut Vec<u8>, n: usize)
     requires { n ≤ length bytes.old.items }
     ensures size { length bytes.new.items ≡ n }
@@ -88,36 +88,14 @@ pub(crate) fn cut_back(bytes: &mut Vec<u8>, n: usize)
     bytes.truncate(n);
 }
 
-// Zeros behind the bytes, where they are fewer.
-pub(crate) fn fill_up(bytes: &mut Vec<u8>, n: usize)
-    requires { n ≤ vec_capacity bytes.old }
-    ensures items { bytes.new.items ≡ filled n 0 bytes.old.items }
-    ensures capacity { vec_capacity bytes.old ≤ vec_capacity bytes.new }
+// Fills up to n items with a value, where they are fewer.
+pub(crate) fn fill_up<T: Copy>(items: &mut Vec<T>, n: usize, value: T)
+    requires { n ≤ vec_capacity items.old }
+    ensures items { items.new.items ≡ filled n value items.old.items }
+    ensures capacity { vec_capacity items.old ≤ vec_capacity items.new }
 {
-    if n > bytes.len() {
-        bytes.resize(n, 0).unwrap();
-    }
-}
-
-// The same of flags, which are not set.
-pub(crate) fn fill_up_flags(flags: &mut Vec<bool>, n: usize)
-    requires { n ≤ vec_capacity flags.old }
-    ensures items { flags.new.items ≡ filled n false flags.old.items }
-    ensures capacity { vec_capacity flags.old ≤ vec_capacity flags.new }
-{
-    if n > flags.len() {
-        flags.resize(n, false).unwrap();
-    }
-}
-
-// The same of slots, which are free.
-pub(crate) fn fill_up_slots(slots: &mut Vec<usize>, n: usize)
-    requires { n ≤ vec_capacity slots.old }
-    ensures items { slots.new.items ≡ filled n 0 slots.old.items }
-    ensures capacity { vec_capacity slots.old ≤ vec_capacity slots.new }
-{
-    if n > slots.len() {
-        slots.resize(n, 0).unwrap();
+    if n > items.len() {
+        items.resize(n, value).unwrap();
     }
 }
 

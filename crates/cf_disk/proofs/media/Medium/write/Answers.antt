@@ -43,7 +43,7 @@ invariant_of-self c =
     let i = c.self.inside in
     let size = now_size i.size (vec_capacity i.bytes) i.bytes.items i.pages c.self.invariant c.args.self.now c.self.view_is in
     written_medium i.size (vec_capacity i.bytes) i.bytes.items i.pages c.self.invariant c.args.at (c.args.at + length c.args.bytes.now) c.args.bytes.now
-    c.deref.result.now c.fill_up.new.bytes.items c.put_vec.new.bytes.items c.keep.new.self c.mark.new.self (omega (arith, size, c.requires)) refl c.deref.ensures.value
+    c.deref.result.now c.fill_up.new.items.items c.put_vec.new.bytes.items c.keep.new.self c.mark.new.self (omega (arith, size, c.requires)) refl c.deref.ensures.value
     c.keep.ensures.keeps c.fill_up.ensures.items c.mark.ensures.marks c.put_vec.ensures.items
     (vec_capacity c.put_vec.new.bytes) c.mark.ensures.sound (omega (arith, c.self.invariant.room_is, c.fill_up.ensures.capacity, c.put_vec.ensures.capacity))
 
@@ -52,7 +52,7 @@ returns-clause-is c =
     let i = c.self.inside in
     let size = now_size i.size (vec_capacity i.bytes) i.bytes.items i.pages c.self.invariant c.args.self.now c.self.view_is in
     written_held i.size (vec_capacity i.bytes) i.bytes.items i.pages c.self.invariant c.args.at (c.args.at + length c.args.bytes.now) c.args.bytes.now
-    c.deref.result.now c.fill_up.new.bytes.items c.put_vec.new.bytes.items c.keep.new.self c.mark.new.self (omega (arith, size, c.requires)) refl c.deref.ensures.value
+    c.deref.result.now c.fill_up.new.items.items c.put_vec.new.bytes.items c.keep.new.self c.mark.new.self (omega (arith, size, c.requires)) refl c.deref.ensures.value
     c.keep.ensures.keeps c.fill_up.ensures.items c.mark.ensures.marks c.put_vec.ensures.items
     ∙ ap (λ (h : Held). written c.args.at c.args.bytes.now h) c.self.view_is
 
@@ -63,7 +63,7 @@ returns-clause-whole c =
     let size = now_size i.size (vec_capacity i.bytes) i.bytes.items i.pages c.self.invariant c.args.self.now c.self.view_is in
     let is =
     written_held i.size (vec_capacity i.bytes) i.bytes.items i.pages c.self.invariant c.args.at (c.args.at + length c.args.bytes.now) c.args.bytes.now
-    c.deref.result.now c.fill_up.new.bytes.items c.put_vec.new.bytes.items c.keep.new.self c.mark.new.self (omega (arith, size, c.requires)) refl c.deref.ensures.value
+    c.deref.result.now c.fill_up.new.items.items c.put_vec.new.bytes.items c.keep.new.self c.mark.new.self (omega (arith, size, c.requires)) refl c.deref.ensures.value
     c.keep.ensures.keeps c.fill_up.ensures.items c.mark.ensures.marks c.put_vec.ensures.items
     ∙ ap (λ (h : Held). written c.args.at c.args.bytes.now h) c.self.view_is in
     (whole, subst (λ (h : Held). IsWhole h) (sym is) (written_whole c.args.at c.args.bytes.now c.args.self.now c.requires whole))
