@@ -1,5 +1,5 @@
 -- Filters and truth values, as the laws about what a step looks at take them.
-use Rattle.std.proofs.Common.{◌≡◌, ℕ, Bool, true, false, ◌&&◌, ◌||◌, not, cond, Option, Some, None, List, [], ◌∷◌, length, refl, sym, ap, ◌∙◌, arith, eqb}
+use Rattle.std.proofs.Common.{◌≡◌, ℕ, Bool, true, false, ◌&&◌, ◌||◌, not, cond, Some, List, [], ◌∷◌, length, refl, sym, ap, ◌∙◌, arith, eqb}
 use Rattle.std.specs.Prelude.{filter, find, map}
 use Rattle.std.specs.List.{AllByRecursion, list_any}
 use Rattle.std.proofs.lemmas.Bool.Decides.{nat_tests}

@@ -1,9 +1,9 @@
 -- Which asks are made hangs on those alone that may own a block that the waits need.
-use Rattle.std.proofs.Common.{◌≡◌, ℕ, zero, suc, ◌+◌, ◌*◌, ◌/◌, ◌^◌, ◌<◌, ◌≤◌, ◌⊎◌, inl, inr, Bool, true, false, ◌&&◌, ◌||◌, not, Option, None, Some, List, [], ◌∷◌, ◌++◌, length, max, min, refl, sym, ap, subst, ◌∙◌, arith, eqb}
-use Rattle.std.specs.Prelude.{filter, map}
+use Rattle.std.proofs.Common.{◌≡◌, ℕ, ◌+◌, ◌*◌, ◌/◌, ◌^◌, ◌<◌, ◌≤◌, ◌⊎◌, inl, inr, Bool, true, false, ◌&&◌, ◌||◌, not, List, [], ◌∷◌, ◌++◌, length, max, min, refl, sym, ap, ◌∙◌, arith, eqb}
+use Rattle.std.specs.Prelude.{map}
 use Rattle.std.specs.List.{AllByRecursion, list_any}
 use Rattle.std.proofs.lemmas.Bool.Decides.{nat_tests}
-use Rattle.cf_ask_rule.proofs.Filters.{filter_same, not_both}
+use Rattle.cf_ask_rule.proofs.Filters.{filter_same}
 use Rattle.cf_ask_rule.proofs.Nearby.{all_append, all_counting}
 use Rattle.cf_ask_rule.proofs.Settling.{filter_none}
 use Rattle.cf_ask_rule.proofs.Wanting.{flag, flag_below, some_between}

@@ -1,7 +1,7 @@
 -- A wait that needs nothing of what changed, nor of the blocks of the ask that ends by time, does not end.
-use Rattle.std.proofs.Common.{◌≡◌, ℕ, zero, suc, ◌+◌, ◌*◌, ◌^◌, ◌<◌, ◌≤◌, Bool, true, false, ◌&&◌, ◌||◌, not, cond, Option, Some, None, List, [], ◌∷◌, ◌++◌, length, max, min, refl, sym, ap, ◌∙◌, arith, eqb}
+use Rattle.std.proofs.Common.{◌≡◌, ℕ, zero, suc, ◌+◌, ◌*◌, ◌^◌, ◌<◌, ◌≤◌, Bool, true, false, ◌&&◌, ◌||◌, cond, Option, Some, None, List, [], ◌∷◌, ◌++◌, length, max, min, refl, sym, ap, ◌∙◌, arith, eqb}
 use Rattle.std.specs.Prelude.{nat_lt}
-use Rattle.std.specs.List.{AllByRecursion, list_any}
+use Rattle.std.specs.List.{AllByRecursion}
 use Rattle.std.proofs.lemmas.Bool.Decides.{nat_tests}
 use Rattle.cf_ask_rule.proofs.Wanting.{flag, flag_below, some_between}
 use Rattle.cf_ask_rule.specs.Narrowing.{AreAlike, IsAround, reaches_into, why_near}
@@ -12,10 +12,9 @@ use Rattle.cf_base.specs.declared.spans.Span.{Span}
 use Rattle.cf_base.specs.declared.waits.Ask.{Ask}
 use Rattle.cf_base.specs.declared.waits.AskKind.{AskKind}
 use Rattle.cf_base.specs.declared.waits.AskKind.TheVariants as ask_kind
-use Rattle.cf_base.specs.declared.waits.Cause.{Cause}
 use Rattle.cf_base.specs.declared.waits.Cause.TheVariants as cause
 use Rattle.cf_model.specs.Asks.{cause_if, misses_in, or_met, waits_by, waits_for}
-use Rattle.cf_model.specs.Missing.{View, Wait, any_between, is_met, misses_block, needed}
+use Rattle.cf_model.specs.Missing.{View, Wait, is_met, misses_block, needed}
 use Rattle.cf_model.specs.Numbers.{same_key}
 use Rattle.cf_model.specs.Requests.{Expires, Leaves, Live, is_data, live_of}
 use Rattle.cf_model.specs.Words.{counting}

@@ -3,9 +3,9 @@ use Rattle.std.specs.Prelude.{◌≡◌, not, List, [], Option, map, filter}
 use Rattle.cf_base.specs.declared.ids.ItemId.{ItemId}
 use Rattle.cf_base.specs.declared.ids.Key.{Key}
 use Rattle.cf_base.specs.declared.waits.Cause.{Cause}
-use Rattle.cf_model.specs.Asks.{ended_of, is_cancelled, left_of, new_asks, why, with_keys}
+use Rattle.cf_model.specs.Asks.{ended_of, is_cancelled, left_of, new_asks, why}
 use Rattle.cf_model.specs.Missing.{View, Wait}
-use Rattle.cf_model.specs.Requests.{Deed, Live, Nothing, Told, Waiting}
+use Rattle.cf_model.specs.Requests.{Deed, Live, Nothing}
 use Rattle.cf_ask_rule.specs.Deeds.{after}
 
 -- The waits that end, and those that are left; the keys of the asks that are cancelled, the asks that are kept, and those

@@ -1,5 +1,5 @@
 -- A run that is followed beside a report: how one event more settles it.
-use Rattle.std.proofs.Common.{◌≡◌, ◌⊎◌, ◌≤◌, ◌<◌, ◌+◌, ◌&&◌, ◌==◌, not, ℕ, zero, suc, Bool, true, false, List, [], ◌∷◌, ◌++◌, drop, length, map, take, refl, sym, ◌∙◌, ap, subst, arith, inl, inr, append_assoc, append-nil, length-append, length-take-le}
+use Rattle.std.proofs.Common.{◌≡◌, ◌⊎◌, ◌≤◌, ◌<◌, ◌+◌, ◌&&◌, ◌==◌, ℕ, zero, suc, Bool, true, false, List, [], ◌∷◌, ◌++◌, drop, length, map, take, refl, sym, ◌∙◌, ap, subst, arith, inl, inr, append_assoc, append-nil, length-append, length-take-le}
 use Rattle.std.specs.Prelude.{Option, Some, None, slice_get}
 use Rattle.std.specs.List.{list_all}
 use Rattle.std.proofs.lemmas.Bool.{eq-eqb, eqb-true}
@@ -36,7 +36,7 @@ use Rattle.cf_check_traces.proofs.NextSteps.{goes_on}
 use Rattle.cf_check_traces.proofs.SameRuns.{Front, front_of, last_event}
 use Rattle.cf_check_traces.proofs.Testing.{begins_is, begins_so}
 use Rattle.cf_check_judge.specs.Bytes.{same_bytes}
-use Rattle.cf_check_judge.specs.Judge.{at_end, first_result, is_line, judge}
+use Rattle.cf_check_judge.specs.Judge.{at_end, first_result, is_line}
 use Rattle.cf_check_judge.proofs.Verdicts.{empty_verdict, lawful_verdict, open_verdict, wrong_verdict}
 use Rattle.cf_check_judge.specs.Settled.{HasCount, IsAt}
 

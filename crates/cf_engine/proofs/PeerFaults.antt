@@ -1,5 +1,5 @@
 -- An event of another device is refused as RemoteFault exactly where one of its asks of the remote failed.
-use Rattle.std.proofs.Common.{◌≡◌, ◌≤◌, ◌+◌, ℕ, Bool, true, false, List, [], ◌∷◌, refl, sym, ap, subst, ◌∙◌, arith}
+use Rattle.std.proofs.Common.{◌≡◌, ◌≤◌, ℕ, Bool, true, false, List, [], ◌∷◌, refl, sym, ap, subst, ◌∙◌, arith}
 use Rattle.std.specs.Prelude.{Option, Some, None, cond, is_some, nat_lt, not, length}
 use Rattle.std.specs.List.{list_all}
 use Rattle.cf_base.specs.declared.answers.Shown.{Shown}

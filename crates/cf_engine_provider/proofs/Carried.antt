@@ -1,7 +1,7 @@
 -- A request that was sent, with its lines on the port.
-use Rattle.std.proofs.Common.{◌≡◌, ℕ, ◌+◌, Bool, true, false, List, [], ◌∷◌, ◌++◌, refl, sym, ◌∙◌, ap, subst, arith}
+use Rattle.std.proofs.Common.{◌≡◌, ℕ, ◌+◌, List, [], ◌∷◌, ◌++◌, sym, subst, arith}
 use Rattle.std.specs.Prelude.{Option, Some, None}
-use Rattle.cf_engine_provider.specs.Agencies.{Agency, Plays, Sees, faults_among}
+use Rattle.cf_engine_provider.specs.Agencies.{Agency, Sees, faults_among}
 use Rattle.cf_engine_provider.specs.Answering.{Suits}
 use Rattle.cf_engine_provider.specs.Parts.{Carries, Exchanges, Sends, exchanged, noted}
 use Rattle.cf_engine_provider.specs.declared.exchanges.Exchange.{Exchange}
@@ -10,10 +10,10 @@ use Rattle.cf_base.specs.declared.notices.Notice.{Notice}
 use Rattle.cf_provider.specs.Sights.{Sight}
 use Rattle.cf_provider.specs.declared.outcomes.Callback.{Callback}
 use Rattle.cf_link.specs.Faults.{AsksFailed, faults_in}
-use Rattle.cf_link.specs.Linked.{IsLink, Linked, lines_of, with_line}
+use Rattle.cf_link.specs.Linked.{Linked, lines_of, with_line}
 use Rattle.cf_link.proofs.FaultCounts.{failed_both}
 use Rattle.cf_model.specs.Ports.{Act, Acts, HasFailed}
-use Rattle.cf_model.specs.State.{Filter, Link, State, with_link, with_notes}
+use Rattle.cf_model.specs.State.{Filter, State, with_link, with_notes}
 use Rattle.cf_remote.specs.Told.{Told}
 
 suits_noted : (sight : Sight) (call : Callback) (f : Filter) (ns : List Notice) → Suits sight call f → Suits sight call (with_notes ns f)

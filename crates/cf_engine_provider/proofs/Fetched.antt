@@ -1,5 +1,5 @@
 -- Replies to a request for bytes.
-use Rattle.std.proofs.Common.{◌≡◌, ℕ, Bool, true, false, not, cond, List, [], ◌∷◌, ◌||◌, ◌&&◌, ◌==◌, length, refl, sym, ◌∙◌, ap, subst}
+use Rattle.std.proofs.Common.{◌≡◌, ℕ, Bool, true, false, not, List, [], ◌||◌, ◌&&◌, ◌==◌, length, refl, sym, ◌∙◌, ap, subst}
 use Rattle.std.specs.Prelude.{Option, Some, None, Result, is_some, option_map}
 use Rattle.std.proofs.lemmas.Bool.{and_parts, eqb-true}
 use Rattle.cf_engine_provider.specs.Agencies.{Agency, Any, Performs, Plays}
@@ -19,9 +19,9 @@ use Rattle.cf_base.specs.declared.waits.Ask.{Ask}
 use Rattle.cf_base.specs.declared.waits.AskKind.{AskKind}
 use Rattle.cf_base.specs.declared.waits.AskKind.TheVariants as ask_kind
 use Rattle.cf_model.specs.Arrows.{Arrow, ret, unit}
-use Rattle.cf_model.specs.Fetching.{live_ask, refuse_by_kind, refuse_live, take_bytes}
+use Rattle.cf_model.specs.Fetching.{live_ask, refuse_by_kind, refuse_live}
 use Rattle.cf_model.specs.Fits.{Known, fits}
-use Rattle.cf_model.specs.Messages.{act_unless, is_old, is_stale, known_now, settled_rid, take_reply}
+use Rattle.cf_model.specs.Messages.{act_unless, is_old, known_now, settled_rid, take_reply}
 use Rattle.cf_model.specs.Numbers.{same_key}
 use Rattle.cf_model.specs.Ports.{Act}
 use Rattle.cf_model.specs.Requests.{Live}

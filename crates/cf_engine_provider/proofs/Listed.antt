@@ -1,5 +1,5 @@
 -- Entries, and what follows where they are refused.
-use Rattle.std.proofs.Common.{◌≡◌, ◌≢◌, ◌⊎◌, inl, inr, ℕ, List, [], ◌∷◌, ◌++◌, true, refl, sym, subst}
+use Rattle.std.proofs.Common.{◌≡◌, ◌≢◌, ◌⊎◌, inl, inr, List, [], ◌∷◌, ◌++◌, true, refl, sym, subst}
 use Rattle.std.specs.Prelude.{Result, Ok}
 use Rattle.cf_engine_provider.specs.Agencies.{Agency, Any, Performs, Plays}
 use Rattle.cf_engine_provider.specs.Parts.{Skips, Tries, give_entries}

@@ -1,7 +1,6 @@
 -- Parts of a callback, one after the other.
-use Rattle.std.proofs.Common.{◌≡◌, ℕ, ◌+◌, ◌≤◌, Bool, true, false, List, [], ◌∷◌, ◌++◌, refl, sym, ◌∙◌, ap, subst, append-nil, arith}
-use Rattle.std.specs.Prelude.{Option, Some, None}
-use Rattle.cf_engine_provider.specs.Agencies.{Agency, Any, Leaves, Plays, Sees, faults_among}
+use Rattle.std.proofs.Common.{◌≡◌, ℕ, ◌+◌, Bool, true, false, List, [], ◌∷◌, ◌++◌, refl, sym, ◌∙◌, ap, subst, append-nil, arith}
+use Rattle.cf_engine_provider.specs.Agencies.{Agency, Any, Plays, Sees, faults_among}
 use Rattle.cf_engine_provider.specs.Parts.{Skips, skip_acts}
 use Rattle.cf_base.specs.declared.answers.Shown.{Shown}
 use Rattle.cf_base.specs.declared.codes.Code.{Code}
@@ -12,7 +11,7 @@ use Rattle.cf_link.proofs.FaultCounts.{failed_none}
 use Rattle.cf_model.proofs.TreeLaws.{ends_mapped, ends_then, stops_first, stops_mapped, stops_then}
 use Rattle.cf_model.specs.Arrows.{Arrow, ret, seq, then_do, unit}
 use Rattle.cf_model.specs.Operations.{execute_with}
-use Rattle.cf_model.specs.Ports.{Act, Acts, Did, Failed, HasFailed, Noted, seeing}
+use Rattle.cf_model.specs.Ports.{Act, Acts, Did, Failed, HasFailed, seeing}
 use Rattle.cf_model.specs.Skips.{skip, skip_line, skipped}
 use Rattle.cf_model.specs.State.{Filter, State, in_filter, with_filter}
 use Rattle.cf_model.specs.Trees.{Ends, Stops, Tree}

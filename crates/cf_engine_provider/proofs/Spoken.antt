@@ -1,7 +1,7 @@
 -- A request and its reply, as the definitions send it.
 use Rattle.std.proofs.Common.{◌≡◌, ℕ, ◌+◌, Bool, true, false, length, refl, sym, ◌∙◌, ap, subst, arith}
 use Rattle.std.specs.Prelude.{Option, Some, None}
-use Rattle.cf_engine_provider.specs.Parts.{Exchanges, Sends, exchanged}
+use Rattle.cf_engine_provider.specs.Parts.{Exchanges}
 use Rattle.cf_base.specs.declared.messages.Reply.{Reply}
 use Rattle.cf_base.specs.declared.messages.Request.{Request}
 use Rattle.cf_base.specs.declared.notices.Frame.TheVariants as frame

@@ -1,8 +1,6 @@
 -- What a program has of the engine as a provider, the states for which that stands, and parts of an event that it plays.
-use Rattle.std.specs.Prelude.{◌≡◌, ◌⊎◌, ℕ, ◌+◌, Bool, true, List, [], ◌∷◌, ◌++◌, Option, Some, None, Result, Ok, Err, is_ok}
-use Rattle.cf_base.specs.declared.codes.Code.{Code}
+use Rattle.std.specs.Prelude.{◌≡◌, ℕ, ◌+◌, Bool, true, List, [], ◌∷◌, Result, is_ok}
 use Rattle.cf_base.specs.declared.memory.OutOfMemory.{OutOfMemory as NoMemory}
-use Rattle.cf_base.specs.declared.notices.Notice.{Notice}
 use Rattle.cf_base.specs.declared.policies.Mode.TheVariants as mode
 use Rattle.cf_link.specs.Faults.{AsksFailed, fault_of}
 use Rattle.cf_link.specs.Linked.{IsLink, Linked, linked_to}

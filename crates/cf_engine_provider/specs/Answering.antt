@@ -1,5 +1,5 @@
 -- By which acts the engine answers a callback.
-use Rattle.std.specs.Prelude.{◌≡◌, ◌<◌, ◌^◌, ℕ, List, Option, option_map}
+use Rattle.std.specs.Prelude.{◌≡◌, ◌<◌, ◌^◌, List, Option, option_map}
 use Rattle.cf_engine_provider.specs.Agencies.{Agency, Plays}
 use Rattle.cf_base.specs.declared.ids.Key.{Key}
 use Rattle.cf_base.specs.declared.spans.Span.{Span}

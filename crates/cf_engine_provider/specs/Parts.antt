@@ -1,5 +1,5 @@
 -- Parts of what the engine does in a callback, which mirror the code: no definitions to believe.
-use Rattle.std.specs.Prelude.{◌≡◌, ◌⊎◌, ℕ, ◌+◌, ◌<◌, ◌^◌, Bool, true, false, cond, List, [], ◌∷◌, ◌++◌, Option, Some, None, Result, Ok, Err}
+use Rattle.std.specs.Prelude.{◌≡◌, ℕ, ◌+◌, Bool, true, false, cond, List, [], ◌∷◌, ◌++◌, Option, Some, None, Result, Ok, Err}
 use Rattle.cf_engine_provider.specs.Agencies.{Agency, Plays}
 use Rattle.cf_engine_provider.specs.Answering.{Suits}
 use Rattle.cf_engine_provider.specs.declared.exchanges.Exchange.{Exchange}

@@ -1,13 +1,13 @@
 -- A request that is sent, as a part of the whole: its message has the number of the last.
-use Rattle.std.proofs.Common.{◌≡◌, ℕ, suc, Bool, true, false, List, [], ◌∷◌, length, refl, sym, ◌∙◌, ap, subst, arith}
-use Rattle.std.specs.Prelude.{Result, Ok, Err, Option, Some, None}
+use Rattle.std.proofs.Common.{◌≡◌, ℕ, suc, Bool, true, false, List, [], ◌∷◌, length, refl, sym, ◌∙◌, ap, subst}
+use Rattle.std.specs.Prelude.{Result, Ok, Option, None}
 use Rattle.cf_base.specs.declared.codes.CallError.{CallError}
 use Rattle.cf_base.specs.declared.messages.Reply.{Reply}
 use Rattle.cf_base.specs.declared.messages.Request.{Request}
 use Rattle.cf_base.specs.declared.notices.Frame.{Frame}
 use Rattle.cf_base.specs.declared.notices.Frame.TheVariants as frame
-use Rattle.cf_engine_steps.specs.Answering.{After, Answers, Any, Reads, Whole}
-use Rattle.cf_engine_steps.specs.Exchanges.{after_sent, come_last, come_last_if, exchange}
+use Rattle.cf_engine_steps.specs.Answering.{After, Answers, Any, Whole}
+use Rattle.cf_engine_steps.specs.Exchanges.{after_sent, come_last_if, exchange}
 use Rattle.cf_engine_steps.specs.States.{Own, whole}
 use Rattle.cf_engine_steps.proofs.Laws.{after_on, goes_any, reads_on, returned}
 use Rattle.cf_engine_steps.proofs.Linking.{inline_read}

@@ -1,8 +1,7 @@
 -- Entries that come as one.
 use Rattle.std.proofs.Common.{◌≡◌, ◌≤◌, ◌<◌, ◌+◌, ◌++◌, ℕ, Bool, true, false, cond, not, List, [], ◌∷◌, length, refl, sym, ◌∙◌, ap, subst, arith, Option, Some, None}
 use Rattle.std.proofs.lemmas.Bool.{and_parts, ltb-false, leb-false, or_parts}
-use Rattle.std.specs.Prelude.{Result, Ok, Err, nat_le, nat_lt, ◌==◌, ◌&&◌, ◌||◌}
-use Rattle.std.specs.List.{list_all, list_any}
+use Rattle.std.specs.Prelude.{Result, Ok, nat_le, nat_lt, ◌&&◌, ◌||◌}
 use Rattle.cf_base.specs.declared.answers.AuxRecord.{AuxRecord}
 use Rattle.cf_base.specs.declared.answers.Shown.{Shown}
 use Rattle.cf_base.specs.declared.answers.Shown.TheVariants as shown
@@ -18,8 +17,8 @@ use Rattle.cf_base.specs.declared.operations.Operation.TheVariants as operation
 use Rattle.cf_base.specs.declared.policies.Policy.{Policy}
 use Rattle.cf_base.specs.declared.waits.Ask.{Ask}
 use Rattle.cf_base.specs.declared.waits.Cause.TheVariants as cause
-use Rattle.cf_filter_calls.specs.Consenting.{consent_room, finished_by, finished_now}
-use Rattle.cf_filter_calls.specs.Entering.{HasPlace, IsListable, IsOpenList, are_names, changes_of_list, entered, entered_by, entry_code, has_bytes_to_fetch, has_large, has_long_identity, is_too_deep, list_code, list_refusal, list_tests, listed_by, listed_changes, listed_tests, put_listed}
+use Rattle.cf_filter_calls.specs.Consenting.{finished_by, finished_now}
+use Rattle.cf_filter_calls.specs.Entering.{HasPlace, IsListable, IsOpenList, are_names, entered, entered_by, entry_code, has_bytes_to_fetch, has_large, has_long_identity, is_too_deep, list_code, list_refusal, list_tests, listed_by, listed_changes, listed_tests, put_listed}
 use Rattle.cf_filter_calls.specs.Moved.{is_unlisted, is_unlisted_at}
 use Rattle.cf_filter_calls.specs.Operating.{IsLiveFor, tests_on}
 use Rattle.cf_model.specs.Arrows.{Arrow, then_do, unless}
@@ -33,15 +32,15 @@ use Rattle.cf_model.specs.Requests.{Live}
 use Rattle.cf_model.specs.Settling.{settle}
 use Rattle.cf_model.specs.State.{Filter}
 use Rattle.cf_model.specs.Texts.{is_name}
-use Rattle.cf_model.specs.Trees.{Does, Tree}
+use Rattle.cf_model.specs.Trees.{Tree}
 use Rattle.cf_model.specs.Words.{first_of, is_empty, part}
-use Rattle.cf_filter_steps.specs.Answering.{After, Answers, Any, Reads, Sense}
+use Rattle.cf_filter_steps.specs.Answering.{Answers, Any, Reads, Sense}
 use Rattle.cf_filter_steps.specs.Finding.{HasRows}
 use Rattle.cf_filter_steps.specs.Good.{Every, IsGood}
 use Rattle.cf_filter_steps.specs.Listing.{Listing, ReadyListed, room_listed}
 use Rattle.cf_filter_steps.specs.Readings.{next_place, policy_of}
 use Rattle.cf_filter_steps.specs.declared.rooms.Room.{Room}
-use Rattle.cf_table.specs.Tables.{MeansAll, Table}
+use Rattle.cf_table.specs.Tables.{Table}
 use Rattle.cf_tree.specs.Lines.{line_in}
 use Rattle.cf_tree.specs.Trees.{BeginWithRoot}
 use Rattle.cf_tree.proofs.Heights.{depth_is}

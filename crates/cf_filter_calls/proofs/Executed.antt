@@ -16,12 +16,11 @@ use Rattle.cf_provider.specs.Checks.{base_at as base_of_live, check_of, check_on
 use Rattle.cf_provider.proofs.Fronts.{refused_first}
 use Rattle.cf_model.specs.Books.{Book}
 use Rattle.cf_model.specs.Changes.{same_book}
-use Rattle.cf_model.specs.Items.{Item}
 use Rattle.cf_model.specs.Operations.{execute, execute_with, key_of, live_at, on_ask, on_live}
 use Rattle.cf_model.specs.Requests.{Live, Waiting, live_of}
 use Rattle.cf_model.specs.State.{Filter}
-use Rattle.cf_model.specs.Trees.{Tree, Does}
-use Rattle.cf_filter_steps.specs.Answering.{After, Answers, Any, Reads, Sense}
+use Rattle.cf_model.specs.Trees.{Tree}
+use Rattle.cf_filter_steps.specs.Answering.{Answers, Any, Reads, Sense}
 use Rattle.cf_filter_steps.specs.Readings.{waiting_of}
 use Rattle.cf_filter_calls.proofs.Transferred.{Goes}
 

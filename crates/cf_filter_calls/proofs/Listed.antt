@@ -1,5 +1,5 @@
 -- The changes of a list and their numbers.
-use Rattle.std.proofs.Common.{◌≡◌, inl, inr, ◌≤◌, ◌<◌, ◌+◌, ◌++◌, ℕ, suc, Bool, true, false, cond, not, List, [], ◌∷◌, drop, get_or, length, refl, sym, ◌∙◌, ap, subst, arith, Option, Some, None}
+use Rattle.std.proofs.Common.{◌≡◌, inl, inr, ◌≤◌, ◌<◌, ◌+◌, ◌++◌, ℕ, suc, Bool, true, false, cond, not, List, [], ◌∷◌, drop, get_or, length, refl, sym, ◌∙◌, ap, subst, arith}
 use Rattle.std.proofs.lemmas.Bool.{ltb-false, or_parts}
 use Rattle.std.proofs.lemmas.Bool.Decides.{nat_tests}
 use Rattle.std.proofs.lemmas.List.{append_assoc, length-append}
@@ -7,7 +7,6 @@ use Rattle.std.proofs.lemmas.Result.{err_from_is_err_and}
 use Rattle.std.specs.Prelude.{Result, Ok, Err, IfErr, IfOk, min, nat_lt, ◌⊎◌, ◌&&◌, ◌||◌}
 use Rattle.std.specs.List.{list_any}
 use Rattle.std.specs.Result.{IsErrAnd}
-use Rattle.cf_base.specs.declared.answers.Shown.{Shown}
 use Rattle.cf_base.specs.declared.answers.Shown.TheVariants as shown
 use Rattle.cf_base.specs.declared.changes.Change.{Change}
 use Rattle.cf_base.specs.declared.changes.Change.TheVariants as change
@@ -22,13 +21,12 @@ use Rattle.cf_base.specs.declared.policies.Policy.{Policy}
 use Rattle.cf_base.specs.declared.waits.Ask.{Ask}
 use Rattle.cf_filter_calls.specs.Entering.{changes_of_list, entered_by, listed_changes, number_past, put_listed}
 use Rattle.cf_filter_calls.specs.Moved.{lacks_place}
-use Rattle.cf_model.specs.Arrows.{Arrow, unless}
+use Rattle.cf_model.specs.Arrows.{unless}
 use Rattle.cf_model.specs.Books.{Book}
 use Rattle.cf_model.specs.Changes.{lacks_numbers, needs_id, next_number, no_places, no_table, put_change, put_changes}
 use Rattle.cf_model.specs.Images.{is_table_full, table_full}
 use Rattle.cf_model.specs.Operations.{entry_changes, entry_kind, no_table_listed}
 use Rattle.cf_model.specs.State.{Filter, Volume}
-use Rattle.cf_model.specs.Trees.{Tree}
 use Rattle.cf_model.specs.Words.{first_of, is_empty, when}
 use Rattle.cf_filter_steps.proofs.Laws.{drop_at}
 

@@ -1,9 +1,9 @@
 -- Changes of a list of entries, which suit.
-use Rattle.std.proofs.Common.{◌≡◌, ◌≤◌, ◌<◌, ◌+◌, ◌++◌, ℕ, zero, suc, Bool, true, false, cond, not, List, [], ◌∷◌, length, refl, sym, ◌∙◌, ap, subst, arith, eqb, Option, Some, None, is_some}
-use Rattle.std.proofs.lemmas.Bool.{and_parts, eqb-true, ltb-false, or_parts}
+use Rattle.std.proofs.Common.{◌≡◌, ◌≤◌, ◌<◌, ◌+◌, ◌++◌, ℕ, zero, suc, Bool, true, false, cond, List, [], ◌∷◌, length, refl, sym, ◌∙◌, ap, subst, arith, eqb, Option, Some, None}
+use Rattle.std.proofs.lemmas.Bool.{and_parts, eqb-true, or_parts}
 use Rattle.std.proofs.lemmas.List.{append_assoc}
-use Rattle.std.specs.Prelude.{MatchOption, find, max, nat_le, nat_lt, ◌==◌, ◌&&◌, ◌||◌}
-use Rattle.std.specs.List.{list_all, list_any}
+use Rattle.std.specs.Prelude.{MatchOption, max, ◌==◌, ◌&&◌}
+use Rattle.std.specs.List.{list_any}
 use Rattle.cf_base.specs.declared.changes.Change.{Change}
 use Rattle.cf_base.specs.declared.changes.Change.TheVariants as change
 use Rattle.cf_base.specs.declared.ids.ItemId.{ItemId}
@@ -15,23 +15,23 @@ use Rattle.cf_filter_calls.specs.Entering.{listed_changes, number_past}
 use Rattle.cf_model.specs.Changes.{next_number, put_change}
 use Rattle.cf_model.specs.Effects.{changed, is_placeholder, made, marked}
 use Rattle.cf_model.specs.Items.{Item, item_of, pin_of}
-use Rattle.cf_model.specs.LookUp.{child_of, depth_at, is_child_named}
+use Rattle.cf_model.specs.LookUp.{child_of, is_child_named}
 use Rattle.cf_model.specs.Operations.{entry_kind, is_twice}
-use Rattle.cf_model.specs.Soundness.{Each, MadeNeeds}
+use Rattle.cf_model.specs.Soundness.{MadeNeeds}
 use Rattle.cf_model.specs.State.{Volume}
 use Rattle.cf_model.specs.Texts.{is_name}
 use Rattle.cf_model.specs.Words.{is_empty, same, when}
-use Rattle.cf_filter_steps.specs.Good.{Every, IsGoodVolume}
-use Rattle.cf_filter_steps.specs.Listing.{AreEntries, IsEntry}
+use Rattle.cf_filter_steps.specs.Good.{Every}
+use Rattle.cf_filter_steps.specs.Listing.{AreEntries}
 use Rattle.cf_tree.specs.Trees.{AreOpen, IsTree, IsUnder, RiseFrom}
 use Rattle.cf_tree.proofs.Depths.{only, some_of}
 use Rattle.cf_tree.proofs.FoundLater.{find_before, find_past}
 use Rattle.cf_tree.proofs.Heights.{depth_is}
 use Rattle.cf_tree.proofs.TreesStay.{AsBefore}
-use Rattle.cf_tree.proofs.Walks.{by_own_id, found_passes, own_id}
+use Rattle.cf_tree.proofs.Walks.{by_own_id, found_passes}
 use Rattle.cf_filter_calls.proofs.Begun.{every_both}
 use Rattle.cf_filter_calls.proofs.NewItems.{dir_needs, dir_placeholder, each_new, name_short}
-use Rattle.cf_filter_calls.proofs.Suited.{each_at, not_false}
+use Rattle.cf_filter_calls.proofs.Suited.{each_at}
 
 -- what stays where it is
 

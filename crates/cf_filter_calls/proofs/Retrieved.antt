@@ -1,5 +1,5 @@
 -- Bytes of a span that are here.
-use Rattle.std.proofs.Common.{◌≡◌, ◌≢◌, ◌<◌, ◌+◌, ◌-◌, ℕ, zero, suc, Bool, true, false, not, List, [], ◌∷◌, length, take, drop, refl, sym, ◌∙◌, ap, subst, arith, Option, Some, None, is_some}
+use Rattle.std.proofs.Common.{◌≡◌, ◌≢◌, ◌<◌, ◌+◌, ℕ, zero, suc, Bool, true, false, not, List, [], ◌∷◌, length, take, drop, refl, sym, ◌∙◌, ap, subst, arith, Option, Some, None, is_some}
 use Rattle.std.specs.Prelude.{Result, Ok, Err, nat_le, slice_range, ◌&&◌, ◌||◌, ◌==◌}
 use Rattle.std.specs.List.{list_all, list_any}
 use Rattle.std.proofs.Math.Dec.{eqb-suc-suc, eqb-suc-zero, eqb-zero-suc}
@@ -20,7 +20,7 @@ use Rattle.cf_base.specs.declared.waits.Ask.{Ask}
 use Rattle.cf_filter_calls.specs.Operating.{IsLiveFor, holds_all, is_whole_in, leaves_none, retrieved, shows_there}
 use Rattle.cf_model.specs.Arrows.{one, reading, ret, then_do, unless}
 use Rattle.cf_model.specs.Books.{Book}
-use Rattle.cf_model.specs.Items.{Item, is_held, is_here, item_of}
+use Rattle.cf_model.specs.Items.{Item, is_held, is_here}
 use Rattle.cf_model.specs.Operations.{as_it_is, held_in, is_outside, retrieve, retrieve_by}
 use Rattle.cf_model.specs.Requests.{Leaves, Live, has_block, is_validate}
 use Rattle.cf_model.specs.Settling.{settle}

@@ -1,5 +1,5 @@
 -- The filter between two events, whose notes are told.
-use Rattle.std.proofs.Common.{◌≡◌, ℕ, List, [], refl, sym, ap, subst, ◌∙◌}
+use Rattle.std.proofs.Common.{◌≡◌, List, [], refl, sym, ap, subst, ◌∙◌}
 use Rattle.std.specs.Prelude.{◌-◌, ◌/◌, min}
 use Rattle.cf_filter_events.specs.Actors.{hushed}
 use Rattle.cf_filter_events.specs.Meaning.{IsDiskOf}

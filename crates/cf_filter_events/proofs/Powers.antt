@@ -23,7 +23,7 @@ use Rattle.cf_journal.specs.Settled.{IsFitSize}
 use Rattle.cf_filter_desk.specs.Desks.{Desk}
 use Rattle.cf_filter_machine.specs.Held.{Held}
 use Rattle.cf_filter_machine.specs.Lasting.{IsOfPoint, Lasts}
-use Rattle.cf_filter_machine.specs.Sensing.{Stands, sense}
+use Rattle.cf_filter_machine.specs.Sensing.{Stands}
 use Rattle.cf_filter_machine.specs.Showing.{Shows}
 use Rattle.cf_model.proofs.TraceLaws.{ended_step}
 use Rattle.cf_model.specs.Events.{begun, tree_of}

@@ -4,12 +4,11 @@ use Rattle.std.specs.Prelude.{◌==◌, Option, Some}
 use Rattle.cf_base.specs.declared.changes.Change.{Change}
 use Rattle.cf_base.specs.declared.ids.ItemId.{ItemId}
 use Rattle.cf_disk.specs.Disk.{Settings, State}
-use Rattle.cf_filter_machine.specs.Keeping.{HasKeptPoints, IsKeptPoint}
+use Rattle.cf_filter_machine.specs.Keeping.{HasKeptPoints}
 use Rattle.cf_model.specs.Books.{Book}
 use Rattle.cf_model.specs.Changes.{may_need_room, put_with_book}
 use Rattle.cf_model.specs.Effects.{changed, populated}
 use Rattle.cf_model.specs.Items.{Item}
-use Rattle.cf_model.specs.Logs.{items_of}
 use Rattle.cf_model.specs.Points.{Opens, with_room_point}
 use Rattle.cf_model.specs.State.{Point, Volume}
 use Rattle.cf_model_room.specs.Rooms.{sure_count}

@@ -15,7 +15,7 @@ use Rattle.cf_model.specs.Images.{runs_from, runs_of, writes_since}
 use Rattle.cf_model.specs.Items.{Item, covered_flags, here_flags, is_here, is_modified, item_of, modified_flags}
 use Rattle.cf_model.specs.Numbers.{above, usn_after}
 use Rattle.cf_model.specs.Overlay.{Written, covers, is_covered}
-use Rattle.cf_model.specs.Rows.{Inside, IsSoundRow, has_place, row_of}
+use Rattle.cf_model.specs.Rows.{IsSoundRow, has_place, row_of}
 use Rattle.cf_model.specs.Rows as model
 use Rattle.cf_model.specs.Soundness.{AllSound, IsSound}
 use Rattle.cf_model.specs.State.{Volume}

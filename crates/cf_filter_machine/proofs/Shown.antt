@@ -1,5 +1,5 @@
 -- What shows of a volume, before a call that the device stops and after it.
-use Rattle.std.proofs.Common.{◌≡◌, ◌+◌, ◌≤◌, ℕ, length, refl, sym, ◌∙◌, ap, subst, arith}
+use Rattle.std.proofs.Common.{◌≡◌, ◌≤◌, ℕ, length, sym, ◌∙◌, ap, subst, arith}
 use Rattle.std.proofs.lemmas.Result.{err_from_is_err_and}
 use Rattle.std.specs.Prelude.{◌-◌, ◌/◌, Err, IfErr, Ok, Result}
 use Rattle.std.specs.Result.{IsErrAnd}

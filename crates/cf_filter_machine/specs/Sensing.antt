@@ -1,5 +1,5 @@
 -- How a filter on a disk stands for states of the definitions.
-use Rattle.std.proofs.Common.{◌≡◌, ◌+◌, ◌≤◌, ap, arith}
+use Rattle.std.proofs.Common.{◌≡◌, ap, arith}
 use Rattle.std.specs.Prelude.{false}
 use Rattle.cf_disk.specs.Disk.{HasFailed, State}
 use Rattle.cf_engine_queue.specs.Records.{IsKeepable}

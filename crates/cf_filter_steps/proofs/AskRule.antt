@@ -1,5 +1,5 @@
 -- A step that was worked out, carried out and told, is the step of the rule.
-use Rattle.std.proofs.Common.{◌≡◌, Bool, true, false, if◌then◌else◌, List, [], ◌∷◌, ◌++◌, refl, sym, ◌∙◌, ap, subst, ℕ, map}
+use Rattle.std.proofs.Common.{◌≡◌, Bool, true, false, if◌then◌else◌, List, [], ◌∷◌, ◌++◌, refl, sym, ◌∙◌, ap, subst, map}
 use Rattle.std.specs.Prelude.{Result, Ok, Err, Option, Some, None, ◌==◌}
 use Rattle.cf_ask_rule.specs.Plans.{Planned}
 use Rattle.cf_base.specs.declared.codes.CallError.{CallError}

@@ -1,6 +1,6 @@
 -- The changes of a plan fit in turn.
-use Rattle.std.proofs.Common.{◌≡◌, ℕ, ◌+◌, ◌≤◌, ◌<◌, Bool, true, false, cond, not, List, [], ◌∷◌, length, refl, sym, ap, subst, ◌∙◌, arith, ltb, Some, None, Option, Ok, Err, Result}
-use Rattle.std.specs.Prelude.{is_some, nat_lt, ◌&&◌, ◌||◌}
+use Rattle.std.proofs.Common.{◌≡◌, ℕ, ◌≤◌, Bool, true, false, cond, not, List, [], ◌∷◌, length, refl, subst, arith, Some, None, Option, Ok, Err, Result}
+use Rattle.std.specs.Prelude.{is_some, nat_lt, ◌&&◌}
 use Rattle.std.proofs.lemmas.Bool.{ltb-false}
 use Rattle.cf_base.specs.Policies.{is_always_full}
 use Rattle.cf_base.specs.declared.changes.Change.{Change}

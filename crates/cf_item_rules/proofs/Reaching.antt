@@ -1,9 +1,8 @@
 -- What is set on the items of a reach is what the definitions set.
-use Rattle.std.proofs.Common.{◌≡◌, ℕ, ◌≤◌, Bool, true, false, cond, not, List, [], ◌∷◌, ◌++◌, refl, sym, ap, subst, ◌∙◌, arith, eqb, Some, None, Option, inl, inr}
+use Rattle.std.proofs.Common.{◌≡◌, Bool, true, false, cond, not, List, [], ◌∷◌, ◌++◌, refl, sym, ap, subst, ◌∙◌, eqb, Some, None, Option, inl, inr}
 use Rattle.std.specs.Prelude.{filter, is_some, map, ◌==◌}
 use Rattle.std.specs.List.{list_any}
 use Rattle.std.proofs.lemmas.Bool.{eqb-true, or_cases}
-use Rattle.cf_base.specs.declared.changes.Change.{Change}
 use Rattle.cf_base.specs.declared.changes.Change.TheVariants as change
 use Rattle.cf_base.specs.declared.ids.ItemId.{ItemId}
 use Rattle.cf_base.specs.declared.items.Pin.{Pin}
@@ -14,7 +13,6 @@ use Rattle.cf_model.specs.Items.{Item, item_of, pin_of}
 use Rattle.cf_model.specs.LookUp.{tree_of}
 use Rattle.cf_model.specs.Plans.{pin_changes, plan_pin, reached, same_pin}
 use Rattle.cf_model.specs.Words.{part, says, when}
-use Rattle.cf_table.specs.Means.{Means}
 use Rattle.cf_table.specs.Tables.{MeansAll, row_of}
 use Rattle.cf_table.specs.declared.rows.Row.{Row}
 use Rattle.cf_tree.specs.Trees.{IsTree}
@@ -23,7 +21,7 @@ use Rattle.cf_tree.proofs.Walks.{own_id, same_item_id}
 use Rattle.cf_item_rules.specs.PinStates.{differs, inherited, set_each, state_for, stored, stored_above}
 use Rattle.cf_tree.proofs.Elements.{Each, each_also, each_filtered}
 use Rattle.cf_item_rules.proofs.Inheriting.{given_state, inherits_one, settled}
-use Rattle.cf_item_rules.proofs.TreeOrder.{There, covered, covered_below, depth_in, each_in_tree, filter_rises, in_tree, is_other, tree_rises}
+use Rattle.cf_item_rules.proofs.TreeOrder.{There, covered, covered_below, depth_in, each_in_tree, filter_rises, is_other, tree_rises}
 
 -- ids
 

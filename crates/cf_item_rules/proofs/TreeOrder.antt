@@ -1,11 +1,11 @@
 -- In a tree each item comes after its parent.
-use Rattle.std.proofs.Common.{◌≡◌, ℕ, zero, suc, ◌+◌, ◌≤◌, ◌<◌, Bool, true, false, cond, not, List, [], ◌∷◌, length, refl, sym, ap, subst, ◌∙◌, arith, eqb, ltb, Some, None, Option, inl, inr}
-use Rattle.std.specs.Prelude.{MatchOption, filter, is_some, ◌&&◌, ◌||◌}
+use Rattle.std.proofs.Common.{◌≡◌, ℕ, zero, suc, ◌≤◌, ◌<◌, Bool, true, false, cond, not, List, [], ◌∷◌, refl, sym, ap, subst, ◌∙◌, arith, eqb, ltb, Some, inl, inr}
+use Rattle.std.specs.Prelude.{filter, ◌&&◌, ◌||◌}
 use Rattle.std.specs.List.{list_any}
 use Rattle.std.proofs.lemmas.Bool.{and_from, cases_Bool, eq-eqb, eqb-false, eqb-true, lt-ltb, ne_eqb, not_from_false, or_from, or_left, or_right}
 use Rattle.cf_base.specs.declared.ids.ItemId.{ItemId}
 use Rattle.cf_model.specs.Items.{Item, item_of}
-use Rattle.cf_model.specs.LookUp.{depth_at, is_below, is_in_tree_of, item_line, line_up, tree_of}
+use Rattle.cf_model.specs.LookUp.{depth_at, is_below, is_in_tree_of, item_line, tree_of}
 use Rattle.cf_tree.specs.Trees.{IsTree, IsUnder}
 use Rattle.cf_tree.proofs.Depths.{line_step, only, some_of}
 use Rattle.cf_tree.proofs.Heights.{depth_is, line_of_item}

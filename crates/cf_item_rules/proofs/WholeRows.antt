@@ -1,6 +1,6 @@
 -- A file is whole where its first run of bytes goes from the start to the end.
-use Rattle.std.proofs.Common.{◌≡◌, ℕ, zero, suc, ◌+◌, ◌≤◌, ◌<◌, Bool, true, false, List, [], ◌∷◌, length, get_or, refl, sym, ap, ◌∙◌, arith, eqb, leb, Some, None, Option, inl, inr}
-use Rattle.std.specs.Prelude.{is_some, nat_le, nat_lt, ◌&&◌, ◌||◌}
+use Rattle.std.proofs.Common.{◌≡◌, ℕ, zero, suc, ◌+◌, ◌≤◌, ◌<◌, true, false, List, [], ◌∷◌, length, get_or, refl, sym, ◌∙◌, arith, eqb, leb, Option, inl, inr}
+use Rattle.std.specs.Prelude.{is_some, nat_le, nat_lt, ◌&&◌}
 use Rattle.std.specs.List.{list_all}
 use Rattle.std.proofs.lemmas.Bool.{and_from, and_parts, cases_lt, eq-eqb, false_from_ne_true, le-leb, lt-leb, ne_eqb, or_from, or_left}
 use Rattle.std.proofs.lemmas.Bool.Decides.{nat_tests}

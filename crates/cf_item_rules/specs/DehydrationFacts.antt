@@ -1,5 +1,5 @@
 -- What a verdict is told, and what it answers.
-use Rattle.std.specs.Prelude.{◌≡◌, ℕ, Bool, not, [], Option, Some, None, nat_lt, ◌+◌, ◌%◌, ◌||◌, ◌∷◌, ◌==◌}
+use Rattle.std.specs.Prelude.{◌≡◌, Bool, not, [], Option, Some, None, nat_lt, ◌+◌, ◌∷◌}
 use Rattle.cf_base.specs.declared.codes.Code.{Code}
 use Rattle.cf_base.specs.declared.codes.Code.TheVariants as code
 use Rattle.cf_base.specs.declared.policies.Policy.{Policy}

@@ -1,5 +1,5 @@
 -- Which state is stored in which items, as the rows say it.
-use Rattle.std.specs.Prelude.{ℕ, Bool, not, List, [], Option, Some, None, ◌∷◌, ◌++◌, ◌==◌}
+use Rattle.std.specs.Prelude.{Bool, not, List, [], ◌∷◌, ◌++◌}
 use Rattle.cf_base.specs.declared.changes.Change.{Change}
 use Rattle.cf_base.specs.declared.changes.Change.TheVariants as change
 use Rattle.cf_base.specs.declared.ids.ItemId.{ItemId}

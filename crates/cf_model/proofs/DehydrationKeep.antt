@@ -5,7 +5,6 @@ use Rattle.cf_base.specs.declared.changes.Change.TheVariants as change
 use Rattle.cf_base.specs.declared.codes.Code.{Code}
 use Rattle.cf_base.specs.declared.waits.End.TheVariants as end
 use Rattle.cf_model.specs.Arrows.{reading, then_do}
-use Rattle.cf_model.specs.Changes.{no_places}
 use Rattle.cf_model.specs.Changes as volume
 use Rattle.cf_model.specs.Items.{Item, size_of}
 use Rattle.cf_model.specs.State.{Filter}

@@ -1,5 +1,5 @@
 -- Images and payloads of format 1. It knows no clock: an image of it has clock 0, keeps no file full and has no access.
-use Rattle.std.specs.Prelude.{ℕ, List, [], length, All, ◌≡◌, ◌∷◌, ◌++◌}
+use Rattle.std.specs.Prelude.{ℕ, List, length, All, ◌≡◌, ◌∷◌, ◌++◌}
 use Rattle.std.specs.List.{flat_map}
 use Rattle.cf_model.specs.Books.{usn_bytes}
 use Rattle.cf_model.specs.FirstRows.{IsFirstRow, spell_row}

@@ -32,7 +32,7 @@ use Rattle.cf_model.specs.Items.{Item, item_of, root}
 use Rattle.cf_model.specs.Kept.{heirs_of}
 use Rattle.cf_model.specs.Logs.{items_of}
 use Rattle.cf_model.specs.LookUp.{find_path}
-use Rattle.cf_model.specs.Messages.{entry_live, known_now, message_at}
+use Rattle.cf_model.specs.Messages.{entry_live, message_at}
 use Rattle.cf_model.specs.Missing.{Wait, span_of}
 use Rattle.cf_model.specs.Numbers.{above, no_rid, root_rid}
 use Rattle.cf_model.specs.Settling.{bytes_at}

@@ -18,7 +18,7 @@ use Rattle.cf_model.specs.Growth.{CountsFrom, IsCounted}
 use Rattle.cf_model.specs.Lawful.{Runs}
 use Rattle.cf_model.specs.Numbers.{key_after, no_version, root_rid, same_key}
 use Rattle.cf_model.specs.State.{State}
-use Rattle.cf_model.specs.Store.{Held, Mutation, Recorded, RecordedDone, RecordedVoid, Stored, as_recorded, at_rid, decide, latest, make_dir, move_to, mutate, put_new, put_version, recorded_at, remote_step, remove_at, trimmed, with_dead, with_new, with_place, with_token, with_version}
+use Rattle.cf_model.specs.Store.{Held, Mutation, Recorded, RecordedDone, RecordedVoid, Stored, as_recorded, at_rid, decide, latest, make_dir, move_to, mutate, put_new, put_version, recorded_at, remote_step, remove_at, trimmed, with_dead, with_new, with_place, with_token}
 use Rattle.cf_model.specs.Store as store
 use Rattle.cf_model.proofs.CountLaws.{runs_rise}
 use Rattle.cf_model.proofs.RemoteLaws.{runs_extend}

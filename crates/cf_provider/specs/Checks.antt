@@ -1,5 +1,5 @@
 -- The refusals of an operation that hang on the waits and asks alone, and on the base length of the ask's file.
-use Rattle.std.specs.Prelude.{ℕ, Bool, not, length, Option, Some, None, Result, Ok, Err, List, [], ◌∷◌, ◌+◌, ◌%◌, ◌&&◌, ◌||◌, ◌==◌}
+use Rattle.std.specs.Prelude.{ℕ, Bool, not, length, Option, Some, None, Result, Ok, Err, List, [], ◌∷◌, ◌+◌, ◌%◌, ◌||◌, ◌==◌}
 use Rattle.cf_base.specs.declared.codes.Code.{Code}
 use Rattle.cf_base.specs.declared.codes.Code.TheVariants as code
 use Rattle.cf_base.specs.declared.operations.Operation.{Operation}

@@ -9,7 +9,7 @@ use Rattle.cf_collections.specs.Split.{IsSplit, NonePass, behind, front, rest}
 use Rattle.cf_lists.proofs.Ordered as ordered
 use Rattle.cf_lists.specs.Ordered.{AllAfter, InOrder}
 use Rattle.cf_model.specs.Words.{put_in}
-use Rattle.cf_table.specs.Index.{begins_with, compared, entry_at, entry_id, entry_ids, is_entry_in, is_entry_of, stands_before, without_entry}
+use Rattle.cf_table.specs.Index.{begins_with, compared, entry_at, entry_id, is_entry_in, is_entry_of, stands_before, without_entry}
 use Rattle.cf_table.specs.declared.entries.Entry.{Entry}
 use Rattle.cf_table.proofs.Indexed.{all_after_equal, compared_total, equal_is, not_equal, other, untouched}
 use Rattle.cf_table.proofs.NamedEntries.{higher, none_in_after, none_named_after, not_in_before, not_named_before}

@@ -1,12 +1,10 @@
 -- The entry of a row becomes another one with its id.
-use Rattle.std.proofs.Common.{◌≡◌, ℕ, zero, suc, ◌+◌, ◌<◌, Bool, true, false, not, List, [], ◌∷◌, eqb, length, get_or, set, refl, sym, ap, ◌∙◌, arith}
-use Rattle.std.specs.Prelude.{filter}
+use Rattle.std.proofs.Common.{◌≡◌, ℕ, zero, suc, ◌+◌, ◌<◌, true, false, not, List, [], ◌∷◌, eqb, length, get_or, set, refl, sym, ap, ◌∙◌, arith}
 use Rattle.std.specs.Cmp.Lexicographic.{slice_cmp}
 use Rattle.std.specs.Ordering.{is_eq, nat_cmp, ordering_then}
 use Rattle.std.specs.declared.cmp.Ordering.{Ordering}
 use Rattle.std.specs.declared.cmp.Ordering.TheVariants.{Less, Equal, Greater}
 use Rattle.std.proofs.lemmas.Bool.{cond-true}
-use Rattle.cf_base.specs.declared.ids.ItemId.{ItemId}
 use Rattle.cf_lists.proofs.Ordered as ordered
 use Rattle.cf_lists.specs.Ordered.{InOrder}
 use Rattle.cf_model.specs.Words.{put_in, same, sorted}

@@ -1,12 +1,12 @@
 -- Where a part is at fault, none of its values is spelled at the front.
-use Rattle.std.proofs.Common.{◌≡◌, ℕ, zero, suc, ◌+◌, ◌*◌, ◌/◌, ◌%◌, ◌^◌, ◌<◌, ◌≤◌, Bool, true, false, List, [], ◌∷◌, ◌++◌, length, refl, sym, ap, subst, ◌∙◌, append_assoc, append-nil, arith, length-append, Option, Some, None, inl, inr, ◌⊎◌}
-use Rattle.std.specs.Prelude.{IfErr, Result, Ok, Err, map, unwrap_or, is_some}
+use Rattle.std.proofs.Common.{◌≡◌, ℕ, zero, suc, ◌+◌, ◌/◌, ◌%◌, ◌^◌, ◌<◌, ◌≤◌, Bool, true, false, List, [], ◌∷◌, ◌++◌, length, refl, sym, ap, subst, ◌∙◌, append_assoc, append-nil, arith, length-append, Option, Some, None, inl, inr}
+use Rattle.std.specs.Prelude.{IfErr, Result, Ok, Err, unwrap_or, is_some}
 use Rattle.std.specs.List.{flat_map}
 use Rattle.cf_base.specs.declared.ids.Usn.{Usn}
 use Rattle.cf_base.specs.declared.items.Pin.{Pin}
 use Rattle.cf_base.specs.declared.items.Pin.TheVariants as pin
 use Rattle.cf_base.specs.declared.spans.Span.{Span}
-use Rattle.cf_codec.specs.Left.{Left, Takes}
+use Rattle.cf_codec.specs.Left.{Left}
 use Rattle.cf_codec.specs.declared.failures.CodecError.{CodecError}
 use Rattle.cf_codec.specs.declared.failures.CodecError.TheVariants as codec
 use Rattle.cf_codec.specs.declared.formats.Format.{Format}
@@ -15,18 +15,17 @@ use Rattle.cf_model.specs.Books.{usn_bytes}
 use Rattle.cf_model.specs.Rows.{Extent, pin_byte, spell_extent, spell_extents, spell_run, spell_runs}
 use Rattle.cf_model.specs.Rows as model
 use Rattle.cf_model.specs.Words.{in_bytes}
-use Rattle.cf_table.specs.Faults.{Any, AreFlags, AreTable, AtBasics, AtBytes, AtEnd, AtExtent, AtExtents, AtFlags, AtHead, AtIdentity, AtLengths, AtMap, AtName, AtNumber, AtNumbers, AtPin, AtRow, AtRows, AtRun, AtRuns, AtSet, AtSets, AtTable, AtTicks, AtUsn, AtWho, AtWhole, Behind, IsBaseField, IsLen, IsNumber, IsTold, NoFault, Then, of_codec}
+use Rattle.cf_table.specs.Faults.{Any, AreFlags, AreTable, AtBasics, AtBytes, AtEnd, AtExtent, AtExtents, AtFlags, AtHead, AtIdentity, AtLengths, AtMap, AtName, AtNumber, AtNumbers, AtPin, AtRow, AtRows, AtRun, AtRuns, AtSet, AtSets, AtTable, AtTicks, AtUsn, AtWho, AtWhole, IsBaseField, IsLen, IsNumber, IsTold, NoFault, Then, of_codec}
 use Rattle.cf_table.specs.Reading.{AreExtents, AreExtentsFrom, AreLengths, AreNumbers, AreRowsIn, AreRunsFrom, AreTicks, IsAbove, IsBasics, IsExtent, IsHead, IsIdentity, IsName, IsRowIn, IsRun, IsSet, IsStored, IsUsn, IsWho, basics_bytes, flags_limit, flags_number, head_bytes, head_of, identity_bytes, lengths_bytes, name_bytes, numbers_bytes, ticks_bytes, who_bytes}
 use Rattle.cf_table.specs.Spelling.{spell_row_in, spell_rows_in}
 use Rattle.cf_table.specs.declared.failures.RowError.{RowError}
 use Rattle.cf_table.specs.declared.failures.RowError.TheVariants.{BadField, OutOfMemory, Short}
 use Rattle.cf_table.specs.declared.heads.Basics.{Basics}
 use Rattle.cf_table.specs.declared.heads.Flags.{Flags}
-use Rattle.cf_table.specs.declared.heads.Head.{Head}
 use Rattle.cf_table.specs.declared.heads.Lengths.{Lengths}
 use Rattle.cf_table.specs.declared.heads.Numbers.{Numbers}
-use Rattle.cf_table.proofs.OneRow.{in_parts, one_extent, one_map, one_row, one_run, one_set, one_table, row_parts}
-use Rattle.cf_table.proofs.OneText.{OneOf, one_2, one_4, one_8, one_basics, one_flags, one_head, one_identity, one_lengths, one_name, one_numbers, one_pin, one_usn, one_who, low_flags, parted, small_flags}
+use Rattle.cf_table.proofs.OneRow.{one_extent, one_row, one_run, one_set, one_table, row_parts}
+use Rattle.cf_table.proofs.OneText.{OneOf, one_2, one_4, one_8, one_basics, one_flags, one_head, one_identity, one_name, one_pin, one_usn, one_who, low_flags, parted, small_flags}
 
 -- no value stands at the front of the text
 abbrev pub Misses : {X : Type 0} → (X → Type 0) → (X → List ℕ) → List ℕ → Type 0

@@ -1,17 +1,16 @@
 -- A text is the spelling of one row, and of one list of rows, and the rest behind it is one too.
-use Rattle.std.proofs.Common.{◌≡◌, ℕ, zero, suc, ◌+◌, ◌^◌, ◌<◌, ◌≤◌, Bool, List, [], ◌∷◌, ◌++◌, length, refl, sym, ap, subst, ◌∙◌, append_assoc, arith, Option, Some, None}
-use Rattle.std.specs.Prelude.{map}
+use Rattle.std.proofs.Common.{◌≡◌, ℕ, ◌+◌, ◌^◌, ◌<◌, List, [], ◌∷◌, ◌++◌, length, refl, sym, ap, subst, ◌∙◌, append_assoc, arith, Option, Some, None}
 use Rattle.std.specs.List.{flat_map}
 use Rattle.cf_base.specs.declared.spans.Span.{Span}
 use Rattle.cf_codec.specs.declared.formats.Format.{Format}
 use Rattle.cf_codec.specs.declared.formats.Format.TheVariants.{First, Second}
 use Rattle.cf_model.specs.FirstRows as first
-use Rattle.cf_model.specs.Rows.{Extent, spell_extent, spell_extents, spell_head, spell_run, spell_runs, spell_sets, spell_texts}
+use Rattle.cf_model.specs.Rows.{Extent, spell_extent, spell_extents, spell_head, spell_run, spell_runs}
 use Rattle.cf_model.specs.Rows as model
 use Rattle.cf_model.specs.Words.{in_bytes}
 use Rattle.cf_table.specs.Faults.{AreTable}
 use Rattle.cf_table.specs.Reading.{AreExtents, AreExtentsFrom, AreRowsIn, AreRunsFrom, IsExtent, IsRowIn, IsRun, IsSet, head_bytes, head_of, identity_bytes, name_bytes}
-use Rattle.cf_table.specs.Spelling.{spell_row_in, spell_rows_in, spell_spans}
+use Rattle.cf_table.specs.Spelling.{spell_row_in, spell_rows_in}
 use Rattle.cf_table.specs.declared.heads.Head.{Head}
 use Rattle.cf_table.proofs.OneText.{OneOf, one_4, one_head, one_identity, one_name}
 

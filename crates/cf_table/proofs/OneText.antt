@@ -1,22 +1,19 @@
 -- A text is the spelling of one value, and the rest behind it is one too.
-use Rattle.std.proofs.Common.{◌≡◌, ℕ, zero, suc, ◌+◌, ◌*◌, ◌/◌, ◌%◌, ◌^◌, ◌<◌, ◌≤◌, Bool, true, false, List, [], ◌∷◌, ◌++◌, length, refl, sym, ap, subst, ◌∙◌, append_assoc, arith, Option, Some, None}
-use Rattle.std.specs.Prelude.{is_some, unwrap_or, map}
-use Rattle.std.specs.List.{flat_map}
-use Rattle.std.specs.Int.{w16, w32, w64, to_be_bytes, from_be_bytes}
+use Rattle.std.proofs.Common.{◌≡◌, ℕ, zero, suc, ◌+◌, ◌^◌, ◌<◌, ◌≤◌, Bool, true, false, List, [], ◌∷◌, ◌++◌, length, refl, sym, ap, subst, ◌∙◌, arith, Option, Some, None}
+use Rattle.std.specs.Prelude.{is_some, unwrap_or}
+use Rattle.std.specs.Int.{w16, w32, w64, from_be_bytes}
 use Rattle.std.proofs.lemmas.Nat.{from_be_bytes-to_be_bytes_2, from_be_bytes-to_be_bytes_4, from_be_bytes-to_be_bytes_8}
 use Rattle.cf_base.specs.declared.ids.ItemId.{ItemId}
 use Rattle.cf_base.specs.declared.ids.Usn.{Usn}
 use Rattle.cf_base.specs.declared.items.Pin.{Pin}
 use Rattle.cf_base.specs.declared.items.Pin.TheVariants as pin
-use Rattle.cf_base.specs.declared.spans.Span.{Span}
 use Rattle.cf_codec.specs.declared.formats.Format.{Format}
 use Rattle.cf_codec.specs.declared.formats.Format.TheVariants.{First, Second}
 use Rattle.cf_model.specs.Books.{usn_bytes}
-use Rattle.cf_model.specs.Rows.{Extent, flag_of, pin_byte, spell_extent, spell_extents, spell_row, spell_run, spell_runs}
+use Rattle.cf_model.specs.Rows.{flag_of, pin_byte}
 use Rattle.cf_model.specs.Rows as model
 use Rattle.cf_model.specs.Words.{in_bytes}
-use Rattle.cf_table.specs.Reading.{AreExtents, AreExtentsFrom, AreLengths, AreNumbers, AreRunsFrom, AreTicks, IsBasics, IsExtent, IsHead, IsIdentity, IsName, IsRun, IsSet, IsStored, IsUsn, IsWho, basics_bytes, flags_limit, flags_number, head_bytes, identity_bytes, lengths_bytes, name_bytes, numbers_bytes, ticks_bytes, who_bytes}
-use Rattle.cf_table.specs.Spelling.{spell_spans}
+use Rattle.cf_table.specs.Reading.{AreLengths, AreNumbers, AreTicks, IsBasics, IsHead, IsIdentity, IsName, IsStored, IsUsn, IsWho, basics_bytes, flags_limit, flags_number, head_bytes, identity_bytes, lengths_bytes, name_bytes, numbers_bytes, ticks_bytes, who_bytes}
 use Rattle.cf_table.specs.declared.heads.Basics.{Basics}
 use Rattle.cf_table.specs.declared.heads.Flags.{Flags}
 use Rattle.cf_table.specs.declared.heads.Head.{Head}

@@ -1,5 +1,5 @@
 -- The parts of a row that were taken are its spelling, and such a row has room.
-use Rattle.std.proofs.Common.{◌≡◌, ℕ, suc, ◌+◌, ◌^◌, ◌<◌, ◌≤◌, List, [], ◌∷◌, ◌++◌, length, refl, sym, ap, subst, ◌∙◌, append_assoc, arith, Option, Some, None}
+use Rattle.std.proofs.Common.{◌≡◌, ℕ, suc, ◌+◌, ◌^◌, ◌<◌, List, [], ◌∷◌, ◌++◌, length, refl, sym, ap, subst, append_assoc, arith, Option, Some}
 use Rattle.std.proofs.lemmas.List.Elements.{All-cons, All-nil}
 use Rattle.std.specs.Prelude.{All, IfOk, Result, Ok, Err, is_some, map}
 use Rattle.cf_base.specs.declared.spans.Span.{Span}
@@ -7,7 +7,7 @@ use Rattle.cf_codec.specs.Left.{Left, Takes}
 use Rattle.cf_codec.specs.declared.formats.Format.{Format}
 use Rattle.cf_codec.specs.declared.formats.Format.TheVariants.{First, Second}
 use Rattle.cf_model.specs.FirstRows as first
-use Rattle.cf_model.specs.Rows.{Extent, spell_head, spell_sets, spell_texts}
+use Rattle.cf_model.specs.Rows.{spell_head}
 use Rattle.cf_model.specs.Words.{in_bytes}
 use Rattle.cf_table.specs.Reading.{AreRowsIn, AreRunsFrom, IsBasics, IsRowIn, head_bytes, identity_bytes, name_bytes, row_of, sets_bytes}
 use Rattle.cf_table.specs.Spelling.{EndBelow, HasRoom, extent_of, row_value, spell_row_in}

@@ -1,8 +1,7 @@
 -- What is taken of a text in parts, and where a fault lies then.
-use Rattle.std.proofs.Common.{◌≡◌, ℕ, ◌+◌, ◌*◌, ◌/◌, ◌%◌, ◌^◌, ◌<◌, ◌≤◌, List, [], ◌∷◌, ◌++◌, length, refl, sym, ap, ◌∙◌, append_assoc, arith, length-append, inl, inr}
+use Rattle.std.proofs.Common.{ℕ, ◌+◌, List, ◌++◌, sym, ap, ◌∙◌, append_assoc, arith, length-append, inl, inr}
 use Rattle.cf_codec.specs.Left.{Left, Takes}
-use Rattle.cf_model.specs.Words.{in_bytes}
-use Rattle.cf_table.specs.Faults.{Behind, Then}
+use Rattle.cf_table.specs.Faults.{Then}
 use Rattle.cf_table.specs.declared.failures.RowError.{RowError}
 
 pub takes_both : {a b : List ℕ} {old mid new : Left} → Takes a old mid → Takes b mid new → Takes (a ++ b) old new

@@ -2,14 +2,13 @@
 -- Of each part of a row a relation tells with which fault the reading of what is left ends in it. Where memory ran out it
 -- says nothing.
 use Rattle.std.specs.Prelude.{ℕ, zero, suc, Bool, true, false, List, [], length, Option, Some, None, ◌+◌, ◌^◌, ◌≤◌, ◌<◌, ◌≡◌, ◌⊎◌, ◌∷◌}
-use Rattle.cf_base.specs.declared.spans.Span.{Span}
 use Rattle.cf_codec.specs.Left.{Left, Takes}
 use Rattle.cf_codec.specs.declared.failures.CodecError.{CodecError}
 use Rattle.cf_codec.specs.declared.failures.CodecError.TheVariants as codec
 use Rattle.cf_codec.specs.declared.formats.Format.{Format}
 use Rattle.cf_codec.specs.declared.formats.Format.TheVariants.{First, Second}
 use Rattle.cf_model.specs.Books.{usn_bytes}
-use Rattle.cf_model.specs.Rows.{Extent, pin_byte, spell_extent, spell_run, spell_runs}
+use Rattle.cf_model.specs.Rows.{pin_byte, spell_extent, spell_run, spell_runs}
 use Rattle.cf_model.specs.Rows as model
 use Rattle.cf_model.specs.Words.{in_bytes}
 use Rattle.cf_table.specs.Reading.{AreRowsIn, IsAbove, IsBasics, IsExtent, IsHead, IsIdentity, IsName, IsRowIn, IsRun, IsSet, IsStored, IsUsn, IsWho, basics_bytes, flags_limit, flags_number, head_bytes, identity_bytes, name_bytes, who_bytes}

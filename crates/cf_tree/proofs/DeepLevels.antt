@@ -1,13 +1,13 @@
 -- How deep the items below another stand, by whether there is one so many names below it.
 use Rattle.std.proofs.Common.{◌≡◌, ℕ, zero, suc, ◌+◌, ◌-◌, ◌≤◌, ◌<◌, Bool, true, false, not, List, [], ◌∷◌, length, refl, sym, ap, subst, ◌∙◌, arith, eqb, ltb, Some, None, Option, inl, inr}
-use Rattle.std.specs.Prelude.{filter, map, nat_lt, ◌&&◌, ◌||◌}
+use Rattle.std.specs.Prelude.{filter, ◌||◌}
 use Rattle.std.specs.List.{list_any}
-use Rattle.std.proofs.lemmas.Bool.{and_from, and_parts, cases_lt, eq-eqb, eqb-false, eqb-true, false_from_ne_true, le-ltb, lt-ltb, or_cases, or_from, or_right}
+use Rattle.std.proofs.lemmas.Bool.{and_from, and_parts, cases_lt, eq-eqb, eqb-true, le-ltb, lt-ltb, or_from, or_right}
 use Rattle.std.proofs.lemmas.Bool.Decides.{nat_tests}
 use Rattle.cf_base.specs.declared.ids.ItemId.{ItemId}
 use Rattle.cf_model.specs.Items.{Item, item_of}
-use Rattle.cf_model.specs.LookUp.{depth_at, height_at, is_below, item_line, line_up}
-use Rattle.cf_model.specs.Words.{greatest, is_empty}
+use Rattle.cf_model.specs.LookUp.{depth_at, height_at, is_below, line_up}
+use Rattle.cf_model.specs.Words.{is_empty}
 use Rattle.cf_table.specs.Tables.{MeansAll}
 use Rattle.cf_table.specs.declared.rows.Row.{Row}
 use Rattle.cf_tree.specs.Levels.{level_at}

@@ -1,15 +1,15 @@
 -- The items below another, level by level.
-use Rattle.std.proofs.Common.{◌≡◌, ℕ, zero, suc, ◌+◌, ◌≤◌, ◌<◌, Bool, true, false, cond, List, [], ◌∷◌, ◌++◌, length, refl, sym, ap, subst, ◌∙◌, arith, eqb, ltb, Some, None, Option, inl, inr}
+use Rattle.std.proofs.Common.{◌≡◌, ℕ, zero, suc, ◌+◌, ◌≤◌, ◌<◌, Bool, true, false, cond, List, [], ◌∷◌, refl, sym, ap, subst, ◌∙◌, arith, eqb, Some, None, Option, inl, inr}
 use Rattle.std.specs.Cmp.{both_ways}
-use Rattle.std.specs.Prelude.{MatchOption, filter, find, ◌&&◌, ◌||◌, ◌⊎◌}
+use Rattle.std.specs.Prelude.{filter, ◌&&◌, ◌||◌}
 use Rattle.std.specs.List.{list_any}
-use Rattle.std.proofs.lemmas.Bool.{and_from, and_parts, and_right, cases_Bool, cond-false, cond-true, eq-eqb, eqb-true, ne_eqb, or_cases, or_from, or_left, or_right}
+use Rattle.std.proofs.lemmas.Bool.{and_from, and_parts, and_right, cases_Bool, eq-eqb, eqb-true, ne_eqb, or_cases, or_from, or_left, or_right}
 use Rattle.cf_base.specs.declared.ids.ItemId.{ItemId}
 use Rattle.cf_model.specs.Items.{Item, item_of}
 use Rattle.cf_model.specs.LookUp.{depth_at, is_below, is_child, is_in_tree_of, item_line, line_up, root_of}
 use Rattle.cf_model.specs.Words.{says}
-use Rattle.cf_tree.specs.Trees.{BeginWithRoot, IsTree, IsUnder, RiseFrom}
-use Rattle.cf_tree.proofs.ChildIds.{is_child_of_any, none_above, none_below}
+use Rattle.cf_tree.specs.Trees.{IsTree, IsUnder, RiseFrom}
+use Rattle.cf_tree.proofs.ChildIds.{is_child_of_any, none_below}
 use Rattle.cf_tree.proofs.Depths.{line_step, only, some_of}
 use Rattle.cf_tree.proofs.Elements.{Each, any_filtered, each_also, each_there}
 use Rattle.cf_tree.proofs.FoundLater.{fewer_rise}

@@ -14,7 +14,6 @@ use Rattle.std.proofs.lemmas.Str.{IsCharBoundary-end, IsCharBoundary-start, IsUt
 use Rattle.cf_base.specs.Names.{is_name_byte}
 use Rattle.cf_model.specs.ConflictNames.{cut_text, ext_at, is_inside, with_number}
 use Rattle.cf_model.specs.Texts.{is_name}
-use Rattle.cf_model.specs.Words.{says}
 use Rattle.cf_model.specs.Words as words
 use Rattle.cf_model.proofs.DecimalLaws.{decimal_is}
 use Rattle.cf_model.proofs.NameLaws.{text_is}

@@ -1,20 +1,20 @@
 -- A place that a path leads to has room for one more name.
-use Rattle.std.proofs.Common.{◌≡◌, ℕ, zero, suc, ◌+◌, ◌≤◌, ◌<◌, Bool, true, false, cond, not, List, [], ◌∷◌, length, refl, sym, ap, subst, ◌∙◌, arith, eqb, Some, None, Option, Ok, Err, Result}
-use Rattle.std.specs.Prelude.{MatchOption, find, nat_lt, ◌&&◌}
+use Rattle.std.proofs.Common.{◌≡◌, ℕ, suc, ◌+◌, ◌≤◌, ◌<◌, Bool, true, false, cond, not, List, [], ◌∷◌, length, refl, sym, ap, subst, ◌∙◌, arith, eqb, Some, None, Option, Ok, Err, Result}
+use Rattle.std.specs.Prelude.{MatchOption, nat_lt}
 use Rattle.std.specs.List.{list_all}
 use Rattle.std.proofs.lemmas.Bool.{and_parts, eqb-true, ltb-false, ne_eqb}
 use Rattle.cf_base.specs.declared.codes.Code.{Code}
 use Rattle.cf_base.specs.declared.codes.Code.TheVariants as code
 use Rattle.cf_base.specs.declared.ids.ItemId.{ItemId}
 use Rattle.cf_model.specs.Items.{Item, item_of}
-use Rattle.cf_model.specs.LookUp.{Place, bad_names, child_of, depth_at, find_place, is_child_named, names_of, place_in, place_of, refused_or, root_of, walk}
+use Rattle.cf_model.specs.LookUp.{Place, child_of, find_place, is_child_named, names_of, place_in, place_of, refused_or, root_of, walk}
 use Rattle.cf_model.specs.Texts.{is_name}
 use Rattle.cf_model.specs.Words.{but_last, first_of, last_of, same}
 use Rattle.cf_tree.specs.Answers.{placed}
-use Rattle.cf_tree.specs.Trees.{BeginWithRoot, MayHold, IsTree, IsUnder, RiseFrom}
+use Rattle.cf_tree.specs.Trees.{BeginWithRoot, MayHold, IsTree, IsUnder}
 use Rattle.cf_tree.proofs.Depths.{only}
 use Rattle.cf_tree.proofs.Heights.{depth_is}
-use Rattle.cf_tree.proofs.Walks.{by_own_id, found_from, found_passes, own_id, root_found, same_item_id}
+use Rattle.cf_tree.proofs.Walks.{by_own_id, found_from, found_passes, root_found, same_item_id}
 
 pub record Arrives (items : List Item) (d : ℕ) (j : Item) : Type 0 where
   pub there : item_of items j.id ≡ Some j

@@ -15,7 +15,7 @@ use Rattle.cf_tree.specs.Trees.{IsTree}
 use Rattle.cf_tree.proofs.Alike.{BothMean, rows_by_id}
 use Rattle.cf_tree.proofs.ByKey.{by_key, sorted_by_key}
 use Rattle.cf_tree.proofs.ChildIds.{below_is, ids}
-use Rattle.cf_tree.proofs.Heights.{IsAbove, above_or_own, depth_small, line_of_item}
+use Rattle.cf_tree.proofs.Heights.{above_or_own, depth_small, line_of_item}
 use Rattle.cf_tree.proofs.LevelsBelow.{There, depth_in, first_level, in_tree, level, level_rises, next_level, none_there, tree_depth}
 use Rattle.cf_tree.proofs.Stable.{has_key}
 use Rattle.cf_tree.proofs.Walks.{own_id, root_found, same_item_id}

@@ -1,20 +1,20 @@
 -- A tree with one more item, or one fewer, is a tree.
-use Rattle.std.proofs.Common.{◌≡◌, ℕ, zero, suc, ◌+◌, ◌≤◌, ◌<◌, Bool, true, false, cond, not, List, [], ◌∷◌, ◌++◌, length, refl, sym, ap, subst, ◌∙◌, arith, eqb, Some, None, Option, inl, inr}
-use Rattle.std.specs.Prelude.{All, MatchOption, filter, find, ◌&&◌}
-use Rattle.std.proofs.lemmas.Bool.{and_from, cond-true, cond-false, eq-eqb, eqb-false, eqb-true, ne_eqb, not_from_false}
+use Rattle.std.proofs.Common.{◌≡◌, ℕ, zero, suc, ◌+◌, ◌<◌, Bool, true, false, cond, List, [], ◌∷◌, ◌++◌, refl, sym, ap, subst, ◌∙◌, arith, eqb, Some, None, Option}
+use Rattle.std.specs.Prelude.{All, MatchOption, filter}
+use Rattle.std.proofs.lemmas.Bool.{and_from, cond-true, eq-eqb, eqb-false, ne_eqb, not_from_false}
 use Rattle.std.proofs.lemmas.List.{append-nil}
 use Rattle.cf_base.specs.declared.ids.ItemId.{ItemId}
 use Rattle.cf_base.specs.declared.ids.Usn.{Usn}
 use Rattle.cf_base.specs.declared.items.Pin.{Pin}
 use Rattle.cf_model.specs.Effects.{copied, copies, without}
 use Rattle.cf_model.specs.Items.{Item, item_of, root}
-use Rattle.cf_model.specs.LookUp.{child_of, children, depth_at, is_child, is_child_named}
+use Rattle.cf_model.specs.LookUp.{children, depth_at, is_child, is_child_named}
 use Rattle.cf_model.specs.Words.{same}
-use Rattle.cf_tree.specs.Trees.{BeginWithRoot, IsTree, IsUnder, MayCome, RiseFrom, Stands}
+use Rattle.cf_tree.specs.Trees.{BeginWithRoot, IsTree, IsUnder, MayCome, Stands}
 use Rattle.cf_tree.proofs.Depths.{only, some_of}
-use Rattle.cf_tree.proofs.FoundLater.{fewer_rise, find_before, find_kept, filter_passes, find_past, is_not, new_id, new_rises, none_pass, was_there}
+use Rattle.cf_tree.proofs.FoundLater.{fewer_rise, find_before, find_kept, filter_passes, find_past, is_not, new_rises, none_pass, was_there}
 use Rattle.cf_tree.proofs.Heights.{depth_is}
-use Rattle.cf_tree.proofs.Walks.{own_id, same_item_id}
+use Rattle.cf_tree.proofs.Walks.{own_id}
 
 pub same_own : (xs : List ℕ) → same xs xs ≡ true
 same_own [] = refl

@@ -1,8 +1,8 @@
 -- A tree of which an item has moved to a place that is not refused is a tree.
-use Rattle.std.proofs.Common.{◌≡◌, ℕ, zero, suc, ◌+◌, ◌-◌, ◌≤◌, ◌<◌, Bool, true, false, cond, not, List, [], ◌∷◌, length, refl, sym, ap, subst, ◌∙◌, arith, eqb, ltb, Some, None, Option, inl, inr}
-use Rattle.std.specs.Prelude.{MatchOption, filter, find, map, nat_lt, ◌&&◌, ◌||◌}
+use Rattle.std.proofs.Common.{◌≡◌, ℕ, zero, suc, ◌+◌, ◌≤◌, Bool, true, false, cond, not, List, [], ◌∷◌, refl, sym, ap, subst, ◌∙◌, arith, eqb, Some, None, Option, inl, inr}
+use Rattle.std.specs.Prelude.{MatchOption, nat_lt, ◌||◌}
 use Rattle.std.specs.List.{list_any}
-use Rattle.std.proofs.lemmas.Bool.{and_from, and_parts, cases_Bool, cond-false, cond-true, eq-eqb, eqb-true, false_from_ne_true, ltb-false, or_parts}
+use Rattle.std.proofs.lemmas.Bool.{and_parts, cases_Bool, cond-false, cond-true, eq-eqb, eqb-true, false_from_ne_true, ltb-false, or_parts}
 use Rattle.cf_base.specs.declared.codes.Code.{Code}
 use Rattle.cf_base.specs.declared.codes.Code.TheVariants as code
 use Rattle.cf_base.specs.declared.ids.ItemId.{ItemId}
@@ -10,14 +10,14 @@ use Rattle.cf_base.specs.declared.ids.Usn.{Usn}
 use Rattle.cf_base.specs.declared.items.Pin.{Pin}
 use Rattle.cf_model.specs.Effects.{changed, moved}
 use Rattle.cf_model.specs.Items.{Item, item_of}
-use Rattle.cf_model.specs.LookUp.{child_of, depth_at, height_at, is_below, is_child_named, item_line, line_up, move_refused}
-use Rattle.cf_model.specs.Words.{first_of, greatest, same, says}
-use Rattle.cf_tree.specs.Trees.{BeginWithRoot, IsTree, IsUnder, RiseFrom, Stands}
-use Rattle.cf_tree.proofs.Depths.{line_depth, line_step, one_depth, only, some_of}
+use Rattle.cf_model.specs.LookUp.{child_of, depth_at, height_at, is_below, is_child_named, line_up, move_refused}
+use Rattle.cf_model.specs.Words.{first_of, same, says}
+use Rattle.cf_tree.specs.Trees.{BeginWithRoot, IsTree, IsUnder, Stands}
+use Rattle.cf_tree.proofs.Depths.{line_step, one_depth, only, some_of}
 use Rattle.cf_tree.proofs.FoundLater.{at_most_greatest, changed_rise, find_changed, find_unchanged, is_not, none_changed, one_changed}
 use Rattle.cf_tree.proofs.FreeNames.{same_is}
-use Rattle.cf_tree.proofs.Heights.{depth_is, depth_small, line_of_item}
-use Rattle.cf_tree.proofs.TreesGrow.{own_child, same_own}
+use Rattle.cf_tree.proofs.Heights.{depth_is, line_of_item}
+use Rattle.cf_tree.proofs.TreesGrow.{own_child}
 use Rattle.cf_tree.proofs.Walks.{own_id, same_item_id}
 
 -- what a move that is not refused has of its tests

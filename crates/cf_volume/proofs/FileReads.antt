@@ -1,14 +1,13 @@
 -- Bytes of a file, block by block.
-use Rattle.std.proofs.Common.{◌≡◌, ℕ, zero, suc, ◌+◌, ◌-◌, ◌*◌, ◌/◌, ◌%◌, ◌<◌, ◌≤◌, ◌==◌, Bool, true, false, List, [], ◌∷◌, ◌++◌, length, map, take, drop, refl, sym, ◌∙◌, ap, subst, arith, inl, inr, Option, Some, None, length-take, length-drop}
+use Rattle.std.proofs.Common.{◌≡◌, ℕ, zero, suc, ◌+◌, ◌-◌, ◌*◌, ◌/◌, ◌%◌, ◌<◌, ◌≤◌, ◌==◌, Bool, true, false, List, [], ◌∷◌, ◌++◌, length, map, take, drop, refl, sym, ◌∙◌, ap, subst, arith, inl, Option, Some, None, length-take, length-drop}
 use Rattle.std.specs.List.{slice_range}
 use Rattle.std.specs.Option.{is_some}
-use Rattle.std.proofs.lemmas.Bool.{cases_lt, eq-eqb, eqb-true, true≢false}
+use Rattle.std.proofs.lemmas.Bool.{eq-eqb, eqb-true, true≢false}
 use Rattle.std.proofs.lemmas.List.{map-append, drop-drop}
 use Rattle.std.proofs.Math.Seq.{take-add}
 use Rattle.cf_volume_blocks.specs.Bytes.{HoldsBlock, byte_is, has_at, holds_at}
-use Rattle.cf_disk.specs.Disk.{Keeps, Leaves, State, part}
-use Rattle.cf_disk.specs.Leaving.{leaves_then, leaves_weaker}
-use Rattle.cf_disk.specs.Parts.{part-append}
+use Rattle.cf_disk.specs.Disk.{Keeps, Leaves, State}
+use Rattle.cf_disk.specs.Leaving.{leaves_then}
 use Rattle.cf_model.proofs.Places.{passes_drop, passes_take}
 use Rattle.cf_model.specs.Books.{Book}
 use Rattle.cf_model.specs.Items.{Item, is_held, item_of}

@@ -1,5 +1,5 @@
 -- A removal as a call.
-use Rattle.std.proofs.Common.{◌≡◌, ℕ, ◌^◌, ◌<◌, true, false, List, [], ◌∷◌, refl, ◌∙◌, subst, Option, Some, None}
+use Rattle.std.proofs.Common.{◌≡◌, ℕ, ◌^◌, ◌<◌, false, List, [], ◌∷◌, refl, ◌∙◌, subst, Option, Some, None}
 use Rattle.std.specs.Prelude.{All, Ok}
 use Rattle.std.proofs.lemmas.List.Elements.{All-nil}
 use Rattle.cf_base.specs.declared.answers.AuxRecord.{AuxRecord}

@@ -1,15 +1,12 @@
 -- What the calls of a volume ask of its parts, and what they make of it.
-use Rattle.std.proofs.Common.{◌≡◌, ℕ, ◌+◌, ◌<◌, ◌≤◌, true, false, List, length, refl, sym, ◌∙◌, ap, subst, arith, Option, Some, None}
-use Rattle.std.specs.Prelude.{All, Err, IfOk, OnOk, Ok, Result, map, slice_range}
-use Rattle.std.proofs.lemmas.Option.{none-some, same_Some}
+use Rattle.std.proofs.Common.{◌≡◌, ℕ, ◌<◌, ◌≤◌, true, List, length, subst, Option, Some, None}
+use Rattle.std.specs.Prelude.{map, slice_range}
+use Rattle.std.proofs.lemmas.Option.{same_Some}
 use Rattle.cf_base.specs.declared.ids.ItemId.{ItemId}
 use Rattle.cf_disk.specs.Disk.{State}
 use Rattle.cf_model.specs.Items.{Item, item_of}
 use Rattle.cf_model.specs.State.{Volume}
-use Rattle.cf_volume_points.proofs.Readings.{read_at}
-use Rattle.cf_volume_points.proofs.Points.{Fair}
 use Rattle.cf_volume_points.specs.At.{At}
-use Rattle.cf_volume_points.specs.Clusters.{clusters_in_rows}
 use Rattle.cf_volume_points.specs.Known.{Known}
 use Rattle.cf_ranges.specs.Pairs.{cluster_at}
 use Rattle.cf_ranges.specs.Positions.{contains}

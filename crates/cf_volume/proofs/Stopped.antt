@@ -1,18 +1,13 @@
 -- Answers of calls that were stopped.
-use Rattle.std.proofs.Common.{◌≡◌, inl, refl, sym, ap, subst}
+use Rattle.std.proofs.Common.{◌≡◌, refl, sym, ap, subst}
 use Rattle.std.specs.Prelude.{Err, IfErr, IsErrAnd, Ok, OnErr, Result}
-use Rattle.cf_base.specs.declared.changes.Change.{Change}
 use Rattle.cf_base.specs.declared.codes.Code.{Code}
 use Rattle.cf_base.specs.declared.codes.Code.TheVariants as code
 use Rattle.cf_base.specs.declared.codes.CallError.{CallError}
 use Rattle.cf_base.specs.declared.codes.CallError.TheVariants as fail
-use Rattle.cf_disk.specs.Disk.{State}
-use Rattle.cf_model.specs.State.{Volume}
-use Rattle.cf_volume_points.specs.Known.{Known}
-use Rattle.cf_volume_points.specs.Runs.{IsStop}
 use Rattle.cf_volume_points.specs.declared.stops.Stop.{Stop}
 use Rattle.cf_volume_points.specs.declared.stops.Stop.TheVariants.{Device, OutOfMemory}
-use Rattle.cf_volume_changes.specs.Calls.{IsCause, IsFullness, IsKept, IsPut, IsRefused, StopsOnly, fail_of}
+use Rattle.cf_volume_changes.specs.Calls.{IsFullness, IsRefused, StopsOnly, fail_of}
 
 -- a want of room is no failure of the device
 pub not_device : (c : Code) → IsFullness c → c ≡ code.Device → ⊥

@@ -20,7 +20,7 @@ use Rattle.cf_model.specs.Effects.{changed}
 use Rattle.cf_model.specs.Images.{is_table_full, never_longer, table_full}
 use Rattle.cf_model.specs.Items.{Item, item_of}
 use Rattle.cf_model.specs.Logs.{next_by}
-use Rattle.cf_model.specs.Numbers.{most, usn_after}
+use Rattle.cf_model.specs.Numbers.{most}
 use Rattle.cf_model.specs.State.{Volume}
 use Rattle.cf_model.specs.Words.{counting, part}
 use Rattle.cf_volume_points.proofs.Counted.{used_now}
@@ -32,7 +32,6 @@ use Rattle.cf_volume_points.specs.Holding.{CountsMore, FitsTable, HoldRows}
 use Rattle.cf_volume_points.specs.Known.{Known}
 use Rattle.cf_volume_points.specs.Standing.{IsBookOf, cluster_on}
 use Rattle.cf_table.proofs.Lengths.{rows_are_items}
-use Rattle.cf_table.proofs.NextChange.{next_goes_on}
 use Rattle.cf_table.proofs.StayingRows.{effect_is}
 use Rattle.cf_table.specs.Applied.{item_effect}
 use Rattle.cf_table.specs.Changing.{item_of_change, pin_for, stays}
@@ -40,8 +39,6 @@ use Rattle.cf_table.specs.Means.{Means}
 use Rattle.cf_table.specs.Tables.{row_of}
 use Rattle.cf_table.specs.declared.rows.Row.{Row}
 use Rattle.cf_volume_changes.proofs.Judged.{needs_no_id, numbers_left, passes_is, refusal_is}
-use Rattle.cf_volume_changes.proofs.Puts.{later_next}
-use Rattle.cf_volume_changes.specs.Steady.{Steady}
 use Rattle.cf_volume_changes.specs.Waits.{passes}
 
 -- blocks from the start of a file on

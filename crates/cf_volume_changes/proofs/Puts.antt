@@ -12,7 +12,7 @@ use Rattle.cf_base.specs.declared.ids.Usn.{Usn}
 use Rattle.cf_base.specs.declared.items.Pin.{Pin}
 use Rattle.cf_base.specs.declared.items.Pin.TheVariants as pin
 use Rattle.cf_base.specs.declared.memory.OutOfMemory.{OutOfMemory}
-use Rattle.cf_volume_blocks.specs.Bytes.{HasEnd, puts_in}
+use Rattle.cf_volume_blocks.specs.Bytes.{puts_in}
 use Rattle.cf_model.specs.Blocks.{blocks_of, lacks_in}
 use Rattle.cf_model.specs.Items.{Item}
 use Rattle.cf_model.specs.Numbers.{above, usn_after}
@@ -30,7 +30,6 @@ use Rattle.cf_table.specs.Means.{IsLater, KeepsRest, Means, StaysBefore}
 use Rattle.cf_table.specs.Tables.{AreTableRows, IsStored, IsTableRow, RisesFrom, pin_at, row_of, with_row}
 use Rattle.cf_table.specs.declared.rows.Row.{Row}
 use Rattle.cf_volume_changes.proofs.Noted.{found_id}
-use Rattle.cf_volume_changes.proofs.Planning.{fits_end}
 use Rattle.cf_volume_changes.specs.Laid.{AreRising, Plans}
 use Rattle.cf_volume_changes.specs.declared.plans.Planned.{Planned}
 use Rattle.cf_volume_changes.specs.Notes.{Notes}

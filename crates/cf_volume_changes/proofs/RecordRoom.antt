@@ -35,7 +35,6 @@ use Rattle.cf_volume_changes.proofs.GoneFits.{key_known, lighter_left}
 use Rattle.cf_volume_changes.specs.AuxPuts.{len_if}
 use Rattle.cf_volume_changes.specs.Calls.{HasRecords}
 use Rattle.cf_volume_changes.specs.Notes.{KnowKeys, NotesKey}
-use Rattle.cf_volume_changes.specs.Steady.{Steady}
 
 none_same : (key : List ℕ) (xs : List AuxRecord) → AreRecordsFrom (Some key) xs → record_at xs key ≡ None
 none_same key [] h = refl

@@ -1,5 +1,5 @@
 -- Why the bytes of a disk are those of no volume.
-use Rattle.std.specs.Prelude.{ℕ, List, length, true, false, ◌≡◌, ◌≤◌, ◌⊎◌, ◌+◌}
+use Rattle.std.specs.Prelude.{ℕ, List, length, true, false, ◌≡◌, ◌⊎◌, ◌+◌}
 use Rattle.cf_codec.specs.declared.formats.Format.{Format}
 use Rattle.cf_volume_commit.specs.declared.damages.Damage.{Damage}
 use Rattle.cf_volume_commit.specs.declared.damages.Damage.TheVariants as damage

@@ -1,16 +1,14 @@
 -- What a fault of a text says of an image and its payloads, and that a known cause shows that they tell no volume.
-use Rattle.std.proofs.Common.{◌≡◌, ℕ, zero, suc, ◌+◌, ◌<◌, ◌≤◌, List, [], ◌∷◌, ◌++◌, length, take, get_or, refl, sym, ap, subst, ◌∙◌, arith, Option, Some, None}
-use Rattle.std.specs.Prelude.{IfErr, Result, Ok, Err, slice_get}
+use Rattle.std.proofs.Common.{◌≡◌, ℕ, zero, suc, ◌+◌, ◌<◌, List, [], ◌∷◌, ◌++◌, length, take, get_or, refl, sym, ap, subst, ◌∙◌, arith, Option, Some, None}
+use Rattle.std.specs.Prelude.{slice_get}
 use Rattle.std.proofs.Math.Seq.{take-suc}
-use Rattle.std.proofs.lemmas.List.{take_all}
 use Rattle.std.proofs.lemmas.Option.{slice_get-get_or}
-use Rattle.cf_codec.specs.Left.{Left}
 use Rattle.cf_codec.specs.declared.formats.Format.{Format}
 use Rattle.cf_model.specs.Formats.{Image, Payload}
 use Rattle.cf_table.specs.declared.failures.RowError.{RowError}
 use Rattle.cf_table.specs.declared.failures.RowError.TheVariants as field
 use Rattle.cf_table.specs.Faults.{IsTold}
-use Rattle.cf_volume_image.specs.Causes.{BeginsAt, IsCause, IsFirstFault, IsImageFault, IsKnown, IsPayloadFault, IsUnspelled, image_error, payload_error}
+use Rattle.cf_volume_image.specs.Causes.{BeginsAt, IsCause, IsFirstFault, IsKnown, IsPayloadFault, IsUnspelled, image_error, payload_error}
 use Rattle.cf_volume_image.specs.Faults.{AtImage, AtPayload}
 use Rattle.cf_volume_image.specs.Sound.{IsSoundIn}
 use Rattle.cf_volume_image.specs.Spelled.{AreSpelledIn, IsPayloadIn, spell_payload_in}

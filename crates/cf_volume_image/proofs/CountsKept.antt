@@ -11,7 +11,7 @@ use Rattle.cf_model.proofs.ReplyLaws.{read_back}
 use Rattle.cf_table.proofs.Indexed.{number_is}
 use Rattle.cf_table.proofs.NamedEntries.{same_is, same_itself}
 use Rattle.cf_volume_image.specs.Contents.{record_at}
-use Rattle.cf_volume_image.specs.Numbers.{AddsAll, AreAllSame, AreCounted, AreNumbersOf, TakesAll, count_of, counts_at, has_number, how_many, is_number, is_numbered, number_at, offset_of, one_if, spells_at}
+use Rattle.cf_volume_image.specs.Numbers.{AddsAll, AreAllSame, AreCounted, AreNumbersOf, TakesAll, count_of, counts_at, has_number, how_many, is_number, is_numbered, offset_of, one_if, spells_at}
 use Rattle.cf_volume_image.specs.Spelled.{AreRecordsFrom}
 use Rattle.cf_volume_image.specs.declared.number_places.NumberPlace.{NumberPlace}
 use Rattle.cf_volume_image.specs.declared.number_places.NumberPlace.TheVariants.{First, Second}

@@ -1,11 +1,11 @@
 -- What a payload takes from the contents, and what it makes of them.
-use Rattle.std.proofs.Common.{◌≡◌, ℕ, ◌+◌, ◌<◌, ◌≤◌, Bool, true, false, ◌||◌, ◌&&◌, not, cond, List, [], ◌∷◌, refl, sym, ap, subst, ◌∙◌, arith, eqb, ltb, inl, inr}
+use Rattle.std.proofs.Common.{◌≡◌, ℕ, ◌+◌, ◌<◌, Bool, true, false, ◌||◌, ◌&&◌, not, cond, List, [], ◌∷◌, refl, sym, ap, ◌∙◌, arith, eqb, ltb, inl, inr}
 use Rattle.std.proofs.lemmas.Bool.{cases_lt, eq-eqb, le-ltb, lt-ltb, ne_eqb}
 use Rattle.std.proofs.lemmas.Bool.Decides.{nat_tests}
 use Rattle.std.specs.Prelude.{filter, map}
 use Rattle.cf_base.specs.declared.answers.AuxRecord.{AuxRecord}
 use Rattle.cf_base.specs.declared.ids.ItemId.{ItemId}
-use Rattle.cf_model.specs.Formats.{is_key_removed, is_removed, spell_record, without_record}
+use Rattle.cf_model.specs.Formats.{is_key_removed, is_removed, without_record}
 use Rattle.cf_model.specs.Formats as model
 use Rattle.cf_model.specs.Rows.{Row}
 use Rattle.cf_model.specs.Words.{put_in, same}

@@ -6,7 +6,6 @@ use Rattle.std.specs.List.{list_all, list_any}
 use Rattle.cf_base.specs.declared.spans.Span.{Span}
 use Rattle.cf_model.specs.Numbers.{no_item, root_id}
 use Rattle.cf_model.specs.Rows as model
-use Rattle.cf_model.specs.Rows.{has_place}
 use Rattle.cf_model.specs.Words.{same, says}
 use Rattle.cf_ranges.specs.Pairs.{cluster_at}
 use Rattle.cf_ranges.specs.Positions.{HasBlock}

@@ -1,7 +1,5 @@
 -- What an image and payloads tell, payload by payload.
-use Rattle.std.proofs.Common.{◌≡◌, ℕ, zero, suc, ◌+◌, ◌<◌, ◌≤◌, List, [], ◌∷◌, ◌++◌, length, take, refl, sym, ap, subst, ◌∙◌, arith, Option, Some, None}
-use Rattle.std.specs.Prelude.{slice_get}
-use Rattle.std.proofs.lemmas.List.{take_all}
+use Rattle.std.proofs.Common.{◌≡◌, ℕ, ◌+◌, List, [], ◌∷◌, ◌++◌, refl, sym, ap, subst, ◌∙◌}
 use Rattle.cf_codec.specs.declared.formats.Format.{Format}
 use Rattle.cf_codec.specs.declared.formats.Format.TheVariants.{Second}
 use Rattle.cf_model.specs.Formats.{Image, Payload, after_payload, after_payloads}

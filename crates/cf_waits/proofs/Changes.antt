@@ -21,7 +21,7 @@ use Rattle.cf_waits.proofs.Told.{all_zip, filter_both, found_is, left_is, told_i
 use Rattle.cf_waits.specs.Deltas.{changed_of, delta_of, dropped_of, unless_kept}
 use Rattle.cf_waits.specs.Rising.{RisesTo, ask_key}
 use Rattle.cf_waits.specs.Sound.{IsSound}
-use Rattle.cf_waits.specs.Steps.{carried, changed_by, is_ended, is_gone}
+use Rattle.cf_waits.specs.Steps.{carried, changed_by, is_gone}
 
 -- An ask is dropped by its key exactly where it is over, and is else what the deed makes of it; or it is dropped, and would be
 -- over or cancelled.

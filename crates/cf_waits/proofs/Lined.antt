@@ -1,5 +1,5 @@
 -- Reads in line: what is added and what is left stands in line, and a search by halves finds those that need something of a span.
-use Rattle.std.proofs.Common.{◌≡◌, ℕ, zero, suc, ◌+◌, ◌-◌, ◌^◌, ◌<◌, ◌≤◌, Bool, true, false, ◌&&◌, ◌||◌, cond, Option, Some, None, List, [], ◌∷◌, ◌++◌, get_or, length, take, drop, length-drop, max, min, refl, sym, ap, subst, ◌∙◌, arith, eqb, leb, ltb}
+use Rattle.std.proofs.Common.{◌≡◌, ℕ, zero, suc, ◌+◌, ◌^◌, ◌<◌, ◌≤◌, Bool, true, false, ◌&&◌, ◌||◌, cond, Option, Some, None, List, [], ◌∷◌, ◌++◌, get_or, length, take, drop, max, min, refl, sym, ap, subst, ◌∙◌, arith, eqb, leb, ltb}
 use Rattle.std.specs.Prelude.{IfSome, filter, is_some, nat_lt}
 use Rattle.std.specs.List.{AllByRecursion, list_any}
 use Rattle.std.specs.List.Sorted.{IsNonDecreasingBy, IsPartitionPoint, IsPartitionedBy}

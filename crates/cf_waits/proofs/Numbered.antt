@@ -1,12 +1,9 @@
 -- Each step leaves waits and asks in order of their numbers.
-use Rattle.std.proofs.Common.{◌≡◌, ℕ, zero, suc, ◌+◌, ◌<◌, ◌≤◌, Bool, true, false, not, cond, Option, Some, None, List, [], ◌∷◌, ◌++◌, length, refl, sym, ap, subst, ◌∙◌, arith}
+use Rattle.std.proofs.Common.{◌≡◌, ℕ, suc, ◌+◌, ◌<◌, Bool, true, false, not, cond, Option, List, [], ◌∷◌, length, refl, sym, subst, arith}
 use Rattle.std.specs.Prelude.{filter, is_some, map}
-use Rattle.cf_base.specs.declared.ids.Handle.{Handle}
 use Rattle.cf_base.specs.declared.ids.ItemId.{ItemId}
 use Rattle.cf_base.specs.declared.ids.Key.{Key}
-use Rattle.cf_base.specs.declared.spans.Span.{Span}
 use Rattle.cf_base.specs.declared.waits.Cause.{Cause}
-use Rattle.cf_base.specs.declared.waits.WaitKind.{WaitKind}
 use Rattle.cf_model.specs.Asks.{after_deed, is_cancelled, is_over, left_of, new_asks, released, settled_with, step_of, why, with_keys}
 use Rattle.cf_model.specs.Missing.{View, Wait}
 use Rattle.cf_model.specs.Numbers.{same_key}

@@ -13,7 +13,7 @@ use Rattle.cf_base.specs.declared.ids.ItemId.{ItemId}
 use Rattle.cf_base.specs.declared.ids.WaitId.{WaitId}
 use Rattle.cf_base.specs.declared.spans.Span.{Span}
 use Rattle.cf_base.specs.declared.waits.WaitKind.{WaitKind}
-use Rattle.cf_model.specs.Asks.{new_asks, step_of}
+use Rattle.cf_model.specs.Asks.{step_of}
 use Rattle.cf_model.specs.Missing.{View, Wait}
 use Rattle.cf_model.specs.Requests.{Cancels, Deed, Live, Waiting, with_waits}
 use Rattle.cf_waits.proofs.Changes.{near_is}

@@ -1,19 +1,15 @@
 -- Each step keeps waits and asks sound.
-use Rattle.std.proofs.Common.{◌≡◌, ℕ, zero, suc, ◌+◌, ◌<◌, ◌≤◌, Bool, true, false, ◌&&◌, ◌||◌, not, cond, Option, Some, None, List, [], ◌∷◌, ◌++◌, length, refl, sym, ap, ◌∙◌, arith, eqb, eq-eqb}
+use Rattle.std.proofs.Common.{◌≡◌, ℕ, zero, suc, ◌+◌, ◌<◌, ◌≤◌, Bool, true, false, ◌&&◌, ◌||◌, not, cond, Option, List, [], ◌∷◌, ◌++◌, length, refl, sym, ap, ◌∙◌, arith, eqb, eq-eqb}
 use Rattle.std.specs.Prelude.{filter, is_some, map}
 use Rattle.std.specs.Bool.{beq}
 use Rattle.std.specs.List.{AllByRecursion, list_any}
 use Rattle.std.proofs.lemmas.Bool.Decides.{nat_tests}
 use Rattle.cf_ask_rule.proofs.Owned.{stay_apart}
 use Rattle.cf_ask_rule.specs.Near.{Agrees, IsFull}
-use Rattle.cf_base.specs.declared.ids.Handle.{Handle}
 use Rattle.cf_base.specs.declared.ids.ItemId.{ItemId}
 use Rattle.cf_base.specs.declared.ids.Key.{Key}
-use Rattle.cf_base.specs.declared.spans.Span.{Span}
-use Rattle.cf_base.specs.declared.waits.AskKind.{AskKind}
 use Rattle.cf_base.specs.declared.waits.AskKind.TheVariants as ask_kind
 use Rattle.cf_base.specs.declared.waits.Cause.{Cause}
-use Rattle.cf_base.specs.declared.waits.WaitKind.{WaitKind}
 use Rattle.cf_model.specs.Asks.{Run, after_deed, ask_of_run, dehydrate_ask, dehydrate_asks, is_cancelled, is_fetched, is_finished, is_over, left_of, list_ask, list_asks, new_asks, open_blocks, released, runs_of, runs_on, settled_with, step_of, why, with_keys}
 use Rattle.cf_model.specs.Missing.{View, Wait}
 use Rattle.cf_model.specs.Numbers.{no_key, same_key}

@@ -2,7 +2,7 @@
 use Rattle.std.proofs.Common.{◌≡◌, ℕ, ◌<◌, Bool, true, false, ◌&&◌, ◌||◌, not, cond, Option, Some, None, List, [], ◌∷◌, refl, sym, ap, subst, ◌∙◌}
 use Rattle.std.specs.Prelude.{filter, is_some, map}
 use Rattle.std.specs.List.{AllByRecursion, list_any}
-use Rattle.cf_ask_rule.proofs.Filters.{all_filter, all_map, all_then, filter_same}
+use Rattle.cf_ask_rule.proofs.Filters.{all_filter, all_map, filter_same}
 use Rattle.cf_base.specs.declared.ids.Key.{Key}
 use Rattle.cf_base.specs.declared.waits.Cause.{Cause}
 use Rattle.cf_model.specs.Asks.{ended_of, left_of, with_end}

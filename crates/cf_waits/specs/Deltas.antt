@@ -4,7 +4,7 @@ use Rattle.cf_ask_rule.specs.Plans.{Outlook, Planned}
 use Rattle.cf_base.specs.declared.ids.ItemId.{ItemId}
 use Rattle.cf_base.specs.declared.ids.Key.{Key}
 use Rattle.cf_model.specs.Missing.{View}
-use Rattle.cf_model.specs.Requests.{Cancels, Closes, Deed, Expires, Fails, Finishes, Leaves, Live, Nothing, Restarts, live_of}
+use Rattle.cf_model.specs.Requests.{Deed, Fails, Finishes, Leaves, Live, live_of}
 
 -- the ask that blocks have left, where it is kept
 abbrev pub changed_of : Deed → List Live → Option Live

@@ -1,10 +1,10 @@
 -- What steps keep of waits and asks.
-use Rattle.std.specs.Prelude.{List, ◌≤◌}
+use Rattle.std.specs.Prelude.{◌≤◌}
 use Rattle.std.specs.List.{AllByRecursion}
 use Rattle.cf_ask_rule.specs.Near.{Agrees, IsFull}
 use Rattle.cf_ask_rule.specs.Owners.{AreApart}
 use Rattle.cf_base.specs.declared.ids.ItemId.{ItemId}
-use Rattle.cf_model.specs.Requests.{Live, Waiting}
+use Rattle.cf_model.specs.Requests.{Waiting}
 use Rattle.cf_waits.specs.Rising.{IsNumbered}
 
 -- Waits and asks stand in order of their numbers; each data ask has a block; the wait of an ask is on its item; no block of an

@@ -1,5 +1,5 @@
 -- What the calls tell of the waits and asks.
-use Rattle.std.specs.Prelude.{ℕ, Bool, true, false, not, List, [], ◌∷◌, Option, Some, None, find, nat_lt, ◌+◌, ◌-◌, ◌&&◌, ◌==◌}
+use Rattle.std.specs.Prelude.{ℕ, Bool, false, not, List, [], ◌∷◌, Option, Some, None, find, ◌&&◌, ◌==◌}
 use Rattle.std.specs.List.{list_all, list_any}
 use Rattle.cf_base.specs.declared.ids.ItemId.{ItemId}
 use Rattle.cf_base.specs.declared.ids.Key.{Key}
@@ -7,7 +7,7 @@ use Rattle.cf_base.specs.declared.ids.WaitId.{WaitId}
 use Rattle.cf_base.specs.declared.waits.AskKind.{AskKind}
 use Rattle.cf_base.specs.declared.waits.AskKind.TheVariants as ask_kind
 use Rattle.cf_model.specs.Missing.{Wait}
-use Rattle.cf_model.specs.Numbers.{most, no_item, same_key}
+use Rattle.cf_model.specs.Numbers.{no_item, same_key}
 use Rattle.cf_model.specs.Requests.{Live, Waiting, expired, has_block, is_hydrate_wait, is_list, is_list_wait, live_of, ticked}
 use Rattle.cf_model.specs.Words.{part, says}
 

@@ -8,9 +8,9 @@ use Rattle.cf_codec.specs.declared.failures.CodecError.TheVariants.{BadField, Sh
 use Rattle.cf_wire.specs.declared.failures.WireError.{WireError}
 use Rattle.cf_wire.specs.declared.failures.WireError.TheVariants as fail
 use Rattle.cf_wire.specs.Faults.{Answers, Begins, BreaksAt, EndsWithin}
-use Rattle.cf_wire.specs.Reading.{◌>>=◌, GivesAll, Step, ended, whole}
+use Rattle.cf_wire.specs.Reading.{GivesAll, Step, ended, whole}
 use Rattle.cf_wire.specs.Spelled.{IsBytes}
-use Rattle.cf_wire.proofs.Exact.{Breaks, IsExact, Took, Within, bind_err, bind_ok, left, ok_is}
+use Rattle.cf_wire.proofs.Exact.{Breaks, IsExact, Within, bind_err, bind_ok, left, ok_is}
 
 ended_ok : {X : Type 0} (x y : X) (place : ℕ) (rest : List ℕ) → ended x place rest ≡ Ok y → (rest ≡ []) × (x ≡ y)
 ended_ok x y place [] e = (refl, ok_is x y e)

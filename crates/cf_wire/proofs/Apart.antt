@@ -1,13 +1,12 @@
 -- Entries are of different items exactly where there are as many items as entries.
-use Rattle.std.proofs.Common.{◌≡◌, ℕ, suc, ◌+◌, ◌<◌, ◌≤◌, Bool, true, false, not, ◌&&◌, ◌==◌, eqb, cond, List, [], ◌∷◌, length, map, inl, inr, refl, sym, ap, ◌∙◌, subst, arith}
+use Rattle.std.proofs.Common.{◌≡◌, ℕ, suc, ◌≤◌, false, ◌==◌, eqb, List, [], ◌∷◌, length, map, inl, inr, refl, sym, ap, ◌∙◌, arith}
 use Rattle.std.proofs.lemmas.Bool.{cases_Bool, eq-eqb, eqb-true, eqb-false}
 use Rattle.std.proofs.lemmas.List.{length-map}
 use Rattle.std.proofs.lemmas.Map.Made.{hash_set_len-from_list}
 use Rattle.std.specs.Cmp.{nat_eq_equiv}
 use Rattle.std.specs.HashSet as bag
 use Rattle.std.specs.HashSet.{HashSet, hash_set_len}
-use Rattle.std.specs.List.{list_any}
-use Rattle.std.specs.Set.{distinct_count, unique_keys, is_member}
+use Rattle.std.specs.Set.{distinct_count, is_member}
 use Rattle.cf_base.specs.declared.messages.Entry.{Entry}
 use Rattle.cf_model.specs.Fits.{are_distinct, has_rid}
 

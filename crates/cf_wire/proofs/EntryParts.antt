@@ -1,5 +1,5 @@
 -- Entries, and the bytes that stand for values, are read exactly.
-use Rattle.std.proofs.Common.{◌≡◌, ℕ, zero, suc, ◌+◌, ◌<◌, ◌^◌, ◌==◌, Bool, true, false, cond, List, [], ◌∷◌, ◌++◌, length, Option, Some, None, Result, Ok, Err, inl, inr, refl, sym, ap, ◌∙◌, subst, arith, append_assoc}
+use Rattle.std.proofs.Common.{◌≡◌, ℕ, zero, suc, ◌+◌, ◌<◌, ◌==◌, Bool, true, false, cond, List, [], ◌∷◌, ◌++◌, length, Option, Some, None, Ok, inl, inr, refl, sym, ap, ◌∙◌, subst, arith, append_assoc}
 use Rattle.std.proofs.lemmas.Bool.{cases_Bool, eqb-true}
 use Rattle.std.proofs.lemmas.List.{nil_from_length}
 use Rattle.std.specs.List.{AllByRecursion, flat_map}
@@ -7,15 +7,13 @@ use Rattle.cf_base.specs.declared.messages.Entry.{Entry}
 use Rattle.cf_base.specs.declared.messages.Why.{Why}
 use Rattle.cf_base.specs.declared.messages.Why.TheVariants as why
 use Rattle.cf_codec.specs.Left.{Left, Takes}
-use Rattle.cf_codec.specs.declared.failures.CodecError.{CodecError}
-use Rattle.cf_codec.specs.declared.failures.CodecError.TheVariants.{BadField, Short}
 use Rattle.cf_model.specs.Frames.{flag, name_bytes, spell_entries, spell_entry, why_number}
 use Rattle.cf_model.specs.Words.{in_bytes}
-use Rattle.cf_wire.specs.Reading.{◌>>=◌, Step, counted_at, dir_of, eight_at, entries_at, entry_at, flag_of, four_at, marked_at, name_at, why_of}
-use Rattle.cf_wire.specs.Spelled.{FitsEntries, FitsEntry, FitsName, IsBytes, entry_widths}
-use Rattle.cf_wire.proofs.Exact.{IsExact, Took, Within, Breaks, both_exact, left, ok_is}
-use Rattle.cf_wire.proofs.Marks.{any, mark, marked_exact, wide_mark}
-use Rattle.cf_wire.proofs.Parts.{eight_exact, form_exact, four_exact, last_eight, made_exact, name_exact, then_eight, then_four, then_name}
+use Rattle.cf_wire.specs.Reading.{◌>>=◌, Step, counted_at, dir_of, entries_at, entry_at, flag_of, marked_at, why_of}
+use Rattle.cf_wire.specs.Spelled.{FitsEntries, FitsEntry, entry_widths}
+use Rattle.cf_wire.proofs.Exact.{IsExact, both_exact, left, ok_is}
+use Rattle.cf_wire.proofs.Marks.{marked_exact}
+use Rattle.cf_wire.proofs.Parts.{form_exact, last_eight, made_exact, then_eight, then_four, then_name}
 
 -- a chain of tests that gave a value
 told : {X : Type 0} (number : X → ℕ) (b k : ℕ) (x y : X) (rest : Option X) → number x ≡ k → (rest ≡ Some y → number y ≡ b) → cond (b == k) (Some x) rest ≡ Some y → number y ≡ b

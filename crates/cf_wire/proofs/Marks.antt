@@ -1,15 +1,14 @@
 -- A byte that says what follows it, or that is a value itself.
-use Rattle.std.proofs.Common.{◌≡◌, ℕ, suc, ◌+◌, ◌<◌, ◌≤◌, ◌==◌, Bool, true, false, cond, eqb, List, [], ◌∷◌, ◌++◌, length, Option, Some, None, Result, Ok, Err, ◌⊎◌, inl, inr, refl, sym, ap, ◌∙◌, subst, arith}
+use Rattle.std.proofs.Common.{◌≡◌, ℕ, suc, ◌+◌, ◌<◌, ◌≤◌, ◌==◌, false, cond, List, [], ◌∷◌, ◌++◌, length, Option, Some, None, Ok, Err, ◌⊎◌, inl, inr, refl, sym, ap, ◌∙◌, subst, arith}
 use Rattle.std.proofs.lemmas.Bool.{cases_Bool, eq-eqb, eqb-true}
 use Rattle.cf_codec.specs.Left.{Left, Takes}
-use Rattle.cf_codec.specs.declared.failures.CodecError.{CodecError}
 use Rattle.cf_codec.specs.declared.failures.CodecError.TheVariants.{BadField, Short}
-use Rattle.cf_wire.specs.Faults.{Begins, total}
+use Rattle.cf_wire.specs.Faults.{total}
 use Rattle.cf_wire.specs.Reading.{◌>>=◌, Step, byte_at, known_at, marked_at}
 use Rattle.cf_wire.specs.Spelled.{IsBytes}
 use Rattle.cf_wire.proofs.Bytes.{IsBytes-after}
 use Rattle.cf_wire.proofs.Exact.{Breaks, IsExact, Took, Within, bind_err, bind_ok, left, ok_is, takes_then}
-use Rattle.cf_wire.proofs.Parts.{byte_exact, byte_missing, byte_never_bad, spell_1, wide_1}
+use Rattle.cf_wire.proofs.Parts.{byte_exact, byte_missing, byte_never_bad}
 
 -- a byte that is a value
 

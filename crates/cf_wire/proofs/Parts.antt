@@ -1,20 +1,19 @@
 -- The fields of frames are read exactly.
-use Rattle.std.proofs.Common.{◌≡◌, ℕ, suc, ◌+◌, ◌-◌, ◌<◌, ◌≤◌, ◌^◌, ◌==◌, Bool, true, false, cond, List, [], ◌∷◌, ◌++◌, length, take, drop, Option, Some, None, Result, Ok, Err, ◌⊎◌, inl, inr, refl, sym, ap, ◌∙◌, subst, arith, append_assoc, length-append, ltb}
+use Rattle.std.proofs.Common.{◌≡◌, ℕ, ◌+◌, ◌-◌, ◌<◌, ◌≤◌, ◌^◌, Bool, true, false, cond, List, [], ◌∷◌, ◌++◌, length, take, drop, Ok, Err, inl, inr, refl, sym, ap, ◌∙◌, subst, arith, length-append, ltb}
 use Rattle.std.proofs.lemmas.Bool.{le-ltb, ltb-false, ltb-true}
 use Rattle.std.proofs.lemmas.List.{drop_at, length-take, nil_from_length, take-append-drop, take_at}
 use Rattle.std.proofs.lemmas.Nat.{be_bytes_4, be_bytes_8, from_be_bytes-to_be_bytes_4, from_be_bytes-to_be_bytes_8}
-use Rattle.std.specs.Int.{w32, w64, from_be_bytes, to_be_bytes}
+use Rattle.std.specs.Int.{w32, w64, from_be_bytes}
 use Rattle.cf_base.specs.declared.ids.Key.{Key}
 use Rattle.cf_codec.specs.Left.{Left, Takes}
-use Rattle.cf_codec.specs.declared.failures.CodecError.{CodecError}
 use Rattle.cf_codec.specs.declared.failures.CodecError.TheVariants.{BadField, Short}
 use Rattle.cf_model.specs.Books.{key_bytes}
 use Rattle.cf_model.specs.Frames.{blob_bytes, name_bytes}
 use Rattle.cf_model.specs.Words.{in_bytes}
 use Rattle.cf_wire.specs.Faults.{Begins, total}
-use Rattle.cf_wire.specs.Reading.{◌>>=◌, Step, blob_at, byte_at, bytes_at, eight_at, first_of, four_at, key_at, known_at, marked_at, name_at, rest_of}
+use Rattle.cf_wire.specs.Reading.{◌>>=◌, Step, blob_at, byte_at, bytes_at, eight_at, first_of, four_at, key_at, name_at, rest_of}
 use Rattle.cf_wire.specs.Spelled.{FitsBlob, FitsKey, FitsName, IsBytes}
-use Rattle.cf_wire.proofs.Bytes.{IsBytes-after, IsBytes-append, IsBytes-before, IsBytes-cons, IsBytes-in_bytes, IsBytes-nil, eight_bytes, four_bytes, some_bytes, total-append}
+use Rattle.cf_wire.proofs.Bytes.{IsBytes-append, IsBytes-before, IsBytes-cons, IsBytes-in_bytes, IsBytes-nil, eight_bytes, four_bytes, some_bytes}
 use Rattle.cf_wire.proofs.Exact.{Breaks, IsExact, Took, Within, bind_err, bind_ok, both_exact, left, ok_is}
 
 -- a value made of what was read

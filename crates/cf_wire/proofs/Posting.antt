@@ -5,9 +5,9 @@ use Rattle.cf_base.specs.declared.memory.OutOfMemory.{OutOfMemory}
 use Rattle.cf_base.specs.declared.notices.Frame.{Frame}
 use Rattle.cf_base.specs.declared.notices.Frame.TheVariants as frame
 use Rattle.cf_model.specs.Frames.{spell_frame}
-use Rattle.cf_model.specs.Messages.{message_at, most_kept, next_message, no_bytes, no_number, with_lost, with_message}
+use Rattle.cf_model.specs.Messages.{message_at, most_kept, next_message, no_bytes, no_number}
 use Rattle.cf_model.specs.Numbers.{most}
-use Rattle.cf_model.specs.State.{Link, State}
+use Rattle.cf_model.specs.State.{State}
 use Rattle.cf_model.specs.Words.{part}
 use Rattle.cf_wire.specs.Sending.{AreKept, IsKept, IsMessage, IsNet, IsPosted, Kept, Posts, message_of, next_number, sending}
 use Rattle.cf_wire.specs.declared.messages.Message.{Message}

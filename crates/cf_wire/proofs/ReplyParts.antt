@@ -1,15 +1,14 @@
 -- What follows the kind of a reply is read exactly.
-use Rattle.std.proofs.Common.{◌≡◌, ℕ, ◌+◌, ◌<◌, ◌^◌, List, [], ◌∷◌, ◌++◌, length, Result, Ok, Err, refl}
+use Rattle.std.proofs.Common.{ℕ, ◌+◌, ◌<◌, ◌^◌, List, [], ◌∷◌, ◌++◌, Ok}
 use Rattle.cf_base.specs.declared.ids.Key.{Key}
 use Rattle.cf_base.specs.declared.messages.Entry.{Entry}
 use Rattle.cf_base.specs.declared.messages.Reply.{Reply}
 use Rattle.cf_base.specs.declared.messages.Reply.TheVariants as reply
 use Rattle.cf_base.specs.declared.messages.Why.{Why}
-use Rattle.cf_codec.specs.Left.{Left}
 use Rattle.cf_model.specs.Books.{key_bytes}
 use Rattle.cf_model.specs.Frames.{blob_bytes, spell_entries, why_number}
 use Rattle.cf_model.specs.Words.{in_bytes}
-use Rattle.cf_wire.specs.Reading.{◌>>=◌, Step, blob_at, bytes_reply_at, done_reply_at, eight_at, entries_at, feed_reply_at, four_at, gone_reply_at, key_at, listing_reply_at, marked_at, missing_reply_at, refused_reply_at, void_reply_at, why_of}
+use Rattle.cf_wire.specs.Reading.{◌>>=◌, bytes_reply_at, done_reply_at, entries_at, feed_reply_at, gone_reply_at, listing_reply_at, marked_at, missing_reply_at, refused_reply_at, void_reply_at, why_of}
 use Rattle.cf_wire.specs.Spelled.{FitsBlob, FitsEntries, FitsKey}
 use Rattle.cf_wire.proofs.EntryParts.{entries_exact, wide_entries, why_exact}
 use Rattle.cf_wire.proofs.Exact.{IsExact, both_exact}

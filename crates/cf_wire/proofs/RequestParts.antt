@@ -1,13 +1,12 @@
 -- What follows the kind of a request is read exactly.
-use Rattle.std.proofs.Common.{◌≡◌, ℕ, ◌+◌, ◌<◌, ◌^◌, List, [], ◌∷◌, ◌++◌, length, Result, Ok, Err, refl, sym, ap, ◌∙◌, arith}
+use Rattle.std.proofs.Common.{ℕ, ◌+◌, ◌<◌, ◌^◌, List, ◌++◌}
 use Rattle.cf_base.specs.declared.ids.Key.{Key}
 use Rattle.cf_base.specs.declared.messages.Request.{Request}
 use Rattle.cf_base.specs.declared.messages.Request.TheVariants as request
-use Rattle.cf_codec.specs.Left.{Left}
 use Rattle.cf_model.specs.Books.{key_bytes}
 use Rattle.cf_model.specs.Frames.{blob_bytes, name_bytes}
 use Rattle.cf_model.specs.Words.{in_bytes}
-use Rattle.cf_wire.specs.Reading.{◌>>=◌, Step, blob_at, eight_at, feed_request_at, fetch_request_at, four_at, keep_request_at, key_at, list_request_at, make_request_at, move_request_at, name_at, put_request_at, remove_request_at, settle_request_at}
+use Rattle.cf_wire.specs.Reading.{feed_request_at, fetch_request_at, keep_request_at, list_request_at, make_request_at, move_request_at, put_request_at, remove_request_at, settle_request_at}
 use Rattle.cf_wire.specs.Spelled.{FitsBlob, FitsKey, FitsName}
 use Rattle.cf_wire.proofs.Exact.{IsExact}
 use Rattle.cf_wire.proofs.Parts.{last_blob, last_eight, last_four, last_key, last_name, then_eight, then_four, then_key, then_name, wide_4, wide_8, wide_blob, wide_key, wide_name}

@@ -1,5 +1,5 @@
 -- A sink that is left.
-use Rattle.std.proofs.Common.{◌≡◌, ℕ, List, [], ap, append-nil, sym}
+use Rattle.std.proofs.Common.{ℕ, List, [], ap, append-nil, sym}
 use Rattle.std.specs.Prelude.{None, Option, Some}
 use Rattle.cf_io.specs.Moves.{Adds}
 

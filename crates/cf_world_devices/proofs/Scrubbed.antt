@@ -10,7 +10,7 @@ use Rattle.cf_scrub.specs.declared.judgements.Judgement.{Judgement}
 use Rattle.cf_scrub.specs.declared.judgements.Judgement.TheVariants.{Clean, Damaged}
 use Rattle.cf_world_devices.proofs.Adding.{adds_nothing}
 use Rattle.cf_world_devices.proofs.Sources.{not_quiet}
-use Rattle.cf_world_devices.specs.Scrubs.{JudgesText, OfScrub, PutsJudgement, ScrubWrites, is_clean, judged_status, most_judged}
+use Rattle.cf_world_devices.specs.Scrubs.{JudgesText, OfScrub, PutsJudgement, judged_status, most_judged}
 
 -- what was written of a judgement, by its status
 pub put_judgement : (j : Judgement) (old new : Option (List ℕ)) (s : Status) → (s ≡ status.Done → Adds old new (text_of j)) → (s ≡ status.SinkFault → AddsFront old new (text_of j)) → (s ≡ status.Done) ⊎ (s ≡ status.SinkFault) → PutsJudgement j old new (judged_status j s)

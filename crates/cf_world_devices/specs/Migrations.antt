@@ -1,5 +1,5 @@
 -- What a migration does with the bytes of a device.
-use Rattle.std.specs.Prelude.{◌≡◌, ◌≢◌, ◌⊎◌, ◌<◌, ◌≤◌, ◌+◌, ℕ, List, [], length, Option}
+use Rattle.std.specs.Prelude.{◌≡◌, ◌≢◌, ◌⊎◌, ◌<◌, ◌+◌, ℕ, List, [], length, Option}
 use Rattle.cf_base.specs.declared.changes.Change.{Change}
 use Rattle.cf_base.specs.declared.ids.Usn.{Usn}
 use Rattle.cf_base.specs.declared.statuses.Status.{Status}

@@ -1,6 +1,6 @@
 -- What is written of what a script leaves.
 use Rattle.std.proofs.Common.{◌≡◌, ◌<◌, ◌≤◌, ℕ, List, [], length, inl, inr, refl, subst, sym, arith}
-use Rattle.std.specs.Prelude.{◌≢◌, IfErr, IfOk, None, Option, Result, Ok, Err}
+use Rattle.std.specs.Prelude.{IfOk, None, Option, Result, Ok, Err}
 use Rattle.cf_base.specs.declared.answers.Answer.{Answer}
 use Rattle.cf_base.specs.declared.codes.CallError.{CallError}
 use Rattle.cf_base.specs.declared.codes.CallError.TheVariants as fail

@@ -1,5 +1,5 @@
 -- The events of a script are events of its mode, by the tests of the script and of the definitions alike.
-use Rattle.std.proofs.Common.{◌≡◌, Bool, true, List, refl, subst}
+use Rattle.std.proofs.Common.{◌≡◌, Bool, List, refl, subst}
 use Rattle.std.specs.Prelude.{IsTrue, ℕ}
 use Rattle.std.specs.List.{list_all}
 use Rattle.cf_base.specs.declared.events.Event.{Event}

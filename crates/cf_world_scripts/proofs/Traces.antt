@@ -1,5 +1,5 @@
 -- Events that are done one after the other, and what was written of them.
-use Rattle.std.proofs.Common.{◌≡◌, ℕ, ◌<◌, Bool, true, false, length, get_or, append_assoc, List, [], ◌∷◌, ◌++◌, refl, sym, ap, subst, ◌∙◌, inl, inr}
+use Rattle.std.proofs.Common.{◌≡◌, ℕ, ◌<◌, Bool, true, false, length, get_or, append_assoc, List, [], ◌∷◌, ◌++◌, sym, ap, subst, ◌∙◌, inl, inr}
 use Rattle.std.specs.Prelude.{Option, IsTrue}
 use Rattle.std.specs.List.{list_all}
 use Rattle.std.proofs.lemmas.Bool.{and_parts, cases_Bool}

@@ -1,5 +1,5 @@
 -- What the trace of a world says.
-use Rattle.std.proofs.Common.{◌≡◌, ◌≤◌, ◌+◌, ℕ, Bool, true, false, List, [], ◌∷◌, ◌++◌, refl, sym, ap, subst, ◌∙◌, Result, Ok, Err}
+use Rattle.std.proofs.Common.{◌≡◌, ◌≤◌, ◌+◌, ℕ, true, false, List, [], ◌∷◌, ◌++◌, refl, sym, ap, subst, ◌∙◌, Result, Ok, Err}
 use Rattle.std.specs.Prelude.{Option, Some, None, IfOk, is_some}
 use Rattle.cf_filter_events.proofs.Wholes.{hands_hold}
 use Rattle.cf_filter_events.specs.Actors.{Acts, IsActor}

@@ -1,4 +1,4 @@
-use Rattle.std.proofs.Common.{◌≡◌, ◌∙◌, sym, arith}
+use Rattle.std.proofs.Common.{◌∙◌, sym, arith}
 use Rattle.cf_ask_rule.proofs.Covering.{all_owned}
 use Rattle.cf_ask_rule.proofs.asks.has_all.Goals as goal
 

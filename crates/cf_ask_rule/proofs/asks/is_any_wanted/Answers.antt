@@ -1,4 +1,4 @@
-use Rattle.std.proofs.Common.{◌≡◌, ◌+◌, ◌||◌, ◌∙◌, ℕ, Bool, ap, drop, sym}
+use Rattle.std.proofs.Common.{◌+◌, ◌||◌, ◌∙◌, ap, drop, sym}
 use Rattle.std.specs.List.{list_any}
 use Rattle.cf_ask_rule.proofs.Places.{any_places}
 use Rattle.cf_ask_rule.proofs.Wanted.{no_run, run_wanted}

@@ -1,4 +1,4 @@
-use Rattle.std.proofs.Common.{◌≡◌, ◌≤◌, ◌∙◌, ◌*◌, ◌/◌, arith}
+use Rattle.std.proofs.Common.{arith}
 use Rattle.cf_ask_rule.proofs.Wanted.{next_wanted, none_wanted}
 use Rattle.cf_ask_rule.proofs.asks.is_run_wanted.Goals as goal
 

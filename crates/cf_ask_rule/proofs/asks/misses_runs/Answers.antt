@@ -1,4 +1,4 @@
-use Rattle.std.proofs.Common.{◌≡◌, ◌∙◌, sym}
+use Rattle.std.proofs.Common.{◌∙◌, sym}
 use Rattle.cf_model.specs.Missing.{misses_block}
 use Rattle.cf_ask_rule.proofs.Places.{any_places}
 use Rattle.cf_ask_rule.proofs.asks.misses_runs.Goals as goal

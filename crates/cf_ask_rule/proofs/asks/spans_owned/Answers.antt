@@ -1,4 +1,4 @@
-use Rattle.std.proofs.Common.{◌≡◌, ◌∙◌, List, ap, subst, sym}
+use Rattle.std.proofs.Common.{◌∙◌, List, ap, subst, sym}
 use Rattle.std.specs.Prelude.{All}
 use Rattle.cf_base.specs.declared.spans.Span.{Span}
 use Rattle.cf_base.specs.declared.waits.Ask.{Ask}

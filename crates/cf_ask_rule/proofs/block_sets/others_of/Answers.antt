@@ -1,4 +1,4 @@
-use Rattle.std.proofs.Common.{◌≡◌, ◌∙◌, sym, ap}
+use Rattle.std.proofs.Common.{sym}
 use Rattle.cf_ask_rule.proofs.Places.{clipped, cut_places}
 use Rattle.cf_ask_rule.proofs.block_sets.others_of.Goals as goal
 

@@ -1,4 +1,4 @@
-use Rattle.std.proofs.Common.{◌≡◌, ◌<◌, ◌-◌, arith, length}
+use Rattle.std.proofs.Common.{◌<◌, ◌-◌, arith, length}
 use Rattle.cf_ask_rule.proofs.Cuts.{contains_at, cut_both, positive}
 use Rattle.cf_ask_rule.proofs.changes.trimmed.Goals as goal
 use Rattle.cf_ranges.specs.Positions.{contains, within}

@@ -1,4 +1,4 @@
-use Rattle.std.proofs.Common.{◌≡◌, ◌∙◌, List, ap}
+use Rattle.std.proofs.Common.{◌∙◌, List, ap}
 use Rattle.std.specs.Prelude.{filter}
 use Rattle.cf_base.specs.declared.spans.Span.{Span}
 use Rattle.cf_ask_rule.proofs.Joined.{spans_have, spans_small}

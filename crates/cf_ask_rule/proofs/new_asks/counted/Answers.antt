@@ -1,4 +1,4 @@
-use Rattle.std.proofs.Common.{◌≡◌, ◌∙◌, ◌||◌, List, ap}
+use Rattle.std.proofs.Common.{◌∙◌, ◌||◌, List, ap}
 use Rattle.cf_base.specs.declared.spans.Span.{Span}
 use Rattle.cf_ask_rule.proofs.Places.{added_places}
 use Rattle.cf_ask_rule.proofs.new_asks.counted.Goals as goal

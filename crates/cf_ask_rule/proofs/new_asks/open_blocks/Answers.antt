@@ -1,4 +1,4 @@
-use Rattle.std.proofs.Common.{◌≡◌, ◌∙◌, ◌&&◌, ◌+◌, ◌/◌, ◌<◌, ◌≤◌, ◌^◌, ℕ, List, ap, arith, length, not, subst, sym}
+use Rattle.std.proofs.Common.{◌∙◌, ◌&&◌, ◌+◌, ◌/◌, ◌<◌, ◌≤◌, ◌^◌, ℕ, List, ap, arith, length, not, subst, sym}
 use Rattle.std.specs.List.{AllByRecursion}
 use Rattle.cf_base.specs.declared.spans.Span.{Span}
 use Rattle.cf_ask_rule.proofs.Runs.{small_filter}

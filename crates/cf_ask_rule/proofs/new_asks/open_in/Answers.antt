@@ -1,4 +1,4 @@
-use Rattle.std.proofs.Common.{◌≡◌, ◌∙◌, arith}
+use Rattle.std.proofs.Common.{◌∙◌, arith}
 use Rattle.cf_ask_rule.proofs.Opening.{finished, pushed, skipped}
 use Rattle.cf_ask_rule.proofs.new_asks.open_in.Goals as goal
 

@@ -1,5 +1,5 @@
-use Rattle.std.proofs.Common.{◌≡◌, ◌∙◌, ap, not, subst, sym, List}
-use Rattle.std.specs.Prelude.{filter, map}
+use Rattle.std.proofs.Common.{◌∙◌, ap, not, subst, sym, List}
+use Rattle.std.specs.Prelude.{filter}
 use Rattle.cf_base.specs.declared.spans.Span.{Span}
 use Rattle.cf_model.specs.Asks.{is_cancelled, left_of, new_asks, why}
 use Rattle.cf_model.specs.Missing.{Wait}

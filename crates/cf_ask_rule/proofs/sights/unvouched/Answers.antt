@@ -1,4 +1,4 @@
-use Rattle.std.proofs.Common.{◌≡◌, ◌∙◌, ◌&&◌, ap, not}
+use Rattle.std.proofs.Common.{◌∙◌, ◌&&◌, ap, not}
 use Rattle.cf_base.specs.declared.spans.Span.{Span}
 use Rattle.cf_ranges.specs.Positions.{contains, in_span}
 use Rattle.cf_ask_rule.proofs.Flags.{unvouched_at}

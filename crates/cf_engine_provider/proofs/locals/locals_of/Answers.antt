@@ -1,4 +1,4 @@
-use Rattle.std.proofs.Common.{◌≡◌, ◌∙◌, Bool, List, true, false, subst}
+use Rattle.std.proofs.Common.{◌∙◌, List, true, false, subst}
 use Rattle.std.specs.List.Sorted.{IsPermutation}
 use Rattle.cf_engine_provider.specs.Listings.{known_in, targets_in}
 use Rattle.cf_model.specs.Fits.{Known}

@@ -1,13 +1,11 @@
-use Rattle.std.proofs.Common.{◌≡◌, ◌∙◌, List, Some, ap}
+use Rattle.std.proofs.Common.{◌≡◌, ◌∙◌, List, Some}
 use Rattle.std.proofs.lemmas.Result.{IfOk-weaker}
 use Rattle.cf_base.specs.declared.changes.Change.{Change}
-use Rattle.cf_base.specs.declared.ids.ItemId.{ItemId}
-use Rattle.cf_base.specs.declared.items.Pin.{Pin}
 use Rattle.cf_model.specs.Items.{Item, item_of}
 use Rattle.cf_model.specs.Plans.{plan_pin}
 use Rattle.cf_table.specs.Tables.{MeansAll}
 use Rattle.cf_tree.specs.Trees.{IsTree}
-use Rattle.cf_item_rules.specs.PinStates.{set_each, state_for}
+use Rattle.cf_item_rules.specs.PinStates.{set_each}
 use Rattle.cf_item_rules.proofs.Reaching.{plan_is}
 use Rattle.cf_item_rules.proofs.pins.plan_pin.Goals as goal
 

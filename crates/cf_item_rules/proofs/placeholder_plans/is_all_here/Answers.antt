@@ -1,8 +1,6 @@
-use Rattle.std.proofs.Common.{◌≡◌, ◌∙◌, List, ap, ℕ}
+use Rattle.std.proofs.Common.{◌∙◌, List, ap}
 use Rattle.cf_base.specs.declared.spans.Span.{Span}
-use Rattle.cf_model.specs.Items.{Item, is_here}
 use Rattle.cf_ranges.specs.Positions.{IsRuns, contains}
-use Rattle.cf_table.specs.Means.{Means}
 use Rattle.std.proofs.Common.{subst, sym}
 use Rattle.std.proofs.lemmas.Bool.{ne_eqb}
 use Rattle.cf_item_rules.proofs.WholeRows.{first_run, late_run, no_runs}

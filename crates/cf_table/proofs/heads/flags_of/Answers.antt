@@ -1,4 +1,3 @@
-use Rattle.std.proofs.Common.{◌≡◌}
 use Rattle.cf_table.proofs.ReadRuns.{flags_value}
 use Rattle.cf_table.proofs.heads.flags_of.Goals as goal
 

@@ -1,4 +1,4 @@
-use Rattle.std.proofs.Common.{◌∙◌, List, ap, refl, sym}
+use Rattle.std.proofs.Common.{◌∙◌, ap, refl, sym}
 use Rattle.cf_model.specs.Words.{put_in}
 use Rattle.cf_table.specs.Index.{entry_at, entry_of, stands_before, without_entry}
 use Rattle.cf_table.specs.declared.rows.Row.{Row}

@@ -3,7 +3,7 @@ use Rattle.std.specs.Ordering.{is_eq}
 use Rattle.std.proofs.lemmas.List.{get_or_default}
 use Rattle.cf_lists.specs.Ordered.{InOrder}
 use Rattle.cf_model.specs.Words.{put_in}
-use Rattle.cf_table.specs.Index.{compared, entry_of, index_of, stands_before, without_entry}
+use Rattle.cf_table.specs.Index.{compared, entry_of, stands_before, without_entry}
 use Rattle.cf_table.specs.declared.entries.Entry.{Entry}
 use Rattle.cf_table.specs.declared.rows.Row.{Row}
 use Rattle.cf_table.proofs.EntrySets.{both_in_order, comes_and_goes, has_already}

@@ -1,4 +1,4 @@
-use Rattle.std.proofs.Common.{ℕ, ◌+◌, ◌≡◌, ◌-◌, arith, rules}
+use Rattle.std.proofs.Common.{◌-◌, arith, rules}
 use Rattle.cf_table.specs.Spelling.{extent_of}
 use Rattle.cf_table.proofs.ReadExit.{exits}
 use Rattle.cf_table.proofs.ReadRuns.{behind_extent, extent_fault, extents_end, extents_then, no_memory_for_extents, one_less, pairs_taken}

@@ -1,4 +1,4 @@
-use Rattle.std.proofs.Common.{ℕ, List, length, ◌≡◌, ◌≤◌, ◌-◌, ◌^◌, ◌++◌}
+use Rattle.std.proofs.Common.{List, length, ◌≡◌, ◌≤◌, ◌-◌, ◌^◌, ◌++◌}
 use Rattle.std.specs.Prelude.{map}
 use Rattle.cf_codec.specs.Left.{Takes}
 use Rattle.cf_model.specs.Rows.{Extent}

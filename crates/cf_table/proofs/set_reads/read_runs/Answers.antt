@@ -1,4 +1,4 @@
-use Rattle.std.proofs.Common.{ℕ, ◌+◌, ◌≡◌, ◌-◌, arith, rules}
+use Rattle.std.proofs.Common.{◌-◌, arith, rules}
 use Rattle.cf_table.proofs.ReadExit.{exits}
 use Rattle.cf_table.proofs.ReadRuns.{behind_run, no_memory_for_runs, one_less, run_fault, runs_end, runs_then, spans_taken}
 use Rattle.cf_table.proofs.set_reads.read_runs.Goals as goal

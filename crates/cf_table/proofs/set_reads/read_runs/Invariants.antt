@@ -1,4 +1,4 @@
-use Rattle.std.proofs.Common.{ℕ, List, length, ◌≡◌, ◌≤◌, ◌-◌, ◌^◌, ◌++◌}
+use Rattle.std.proofs.Common.{List, length, ◌≡◌, ◌≤◌, ◌-◌, ◌^◌, ◌++◌}
 use Rattle.cf_base.specs.declared.spans.Span.{Span}
 use Rattle.cf_codec.specs.Left.{Takes}
 use Rattle.cf_table.specs.Faults.{AtRuns}

@@ -1,17 +1,11 @@
-use Rattle.std.proofs.Common.{◌≡◌, ◌+◌, ◌⊎◌, refl, sym, ap, subst}
+use Rattle.std.proofs.Common.{◌≡◌, ◌+◌, refl, sym, ap, subst}
 use Rattle.std.specs.Prelude.{Err}
 use Rattle.cf_base.specs.declared.codes.Code.TheVariants.{Exhausted, NotAVolume}
-use Rattle.cf_base.specs.declared.codes.CallError.{CallError}
-use Rattle.cf_volume_commit.specs.Loaded.{HoldsImage}
-use Rattle.cf_journal.specs.Steps.{ReadsOnly}
-use Rattle.cf_model.specs.Formats.{Image}
-use Rattle.cf_model.specs.Numbers.{most}
 use Rattle.cf_volume_points.specs.At.{At}
 use Rattle.cf_volume_points.specs.Known.{Known}
 use Rattle.cf_volume_points.specs.Standing.{clusters_for, opened}
 use Rattle.cf_volume.proofs.OpenedFrom.{opened_from, refused_as_one, steady_opened}
-use Rattle.cf_volume.proofs.Stopped.{handed_on, refused_as}
-use Rattle.cf_volume_changes.specs.Calls.{IsRefused}
+use Rattle.cf_volume.proofs.Stopped.{refused_as}
 use Rattle.cf_disk.specs.Disk.{capped}
 use Rattle.cf_volume_commit.specs.Loaded.{opening_bytes}
 use Rattle.cf_volume_image.specs.Contents.{image_of}

@@ -1,4 +1,4 @@
-use Rattle.std.proofs.Common.{leb, length, ap, arith}
+use Rattle.std.proofs.Common.{length, ap, arith}
 use Rattle.std.proofs.lemmas.Bool.{le-leb, leb-true}
 use Rattle.cf_volume.proofs.written_rows.can_be_written.Goals as goal
 

@@ -1,6 +1,5 @@
 use Rattle.std.proofs.Common.{◌+◌, ℕ, List, arith, subst, sym, take, take_all}
 use Rattle.cf_model.specs.Formats.{Image}
-use Rattle.cf_table.specs.declared.failures.RowError.{RowError}
 use Rattle.cf_volume_image.specs.Causes.{IsUnspelled}
 use Rattle.cf_volume_image.specs.Drafts.{draft_image}
 use Rattle.cf_volume_image.specs.Faults.{AtPayload}

@@ -1,4 +1,4 @@
-use Rattle.std.proofs.Common.{inl, inr, None}
+use Rattle.std.proofs.Common.{inl, inr}
 use Rattle.cf_table.specs.declared.failures.RowError.TheVariants.{OutOfMemory}
 use Rattle.cf_table.proofs.ReadExit.{exits}
 use Rattle.cf_volume_image.proofs.part_reads.read_record.Goals as goal

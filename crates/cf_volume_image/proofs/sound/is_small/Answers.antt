@@ -1,4 +1,4 @@
-use Rattle.std.proofs.Common.{◌≡◌, ℕ, List, ap, arith, length}
+use Rattle.std.proofs.Common.{List, ap, arith, length}
 use Rattle.cf_table.specs.declared.rows.Row.{Row}
 use Rattle.cf_volume_image.proofs.Formats.{small_decides}
 use Rattle.cf_volume_image.proofs.sound.is_small.Goals as goal

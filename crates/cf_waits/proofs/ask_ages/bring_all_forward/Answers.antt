@@ -1,4 +1,4 @@
-use Rattle.std.proofs.Common.{◌≡◌, ◌-◌, ◌∙◌, ap, arith, get_or, sym}
+use Rattle.std.proofs.Common.{◌-◌, ◌∙◌, ap, arith, get_or, sym}
 use Rattle.cf_waits.specs.Books.{brought_forward}
 use Rattle.cf_waits.proofs.Ages.{map_front, map_rest}
 use Rattle.cf_waits.proofs.ask_ages.bring_all_forward.Goals as goal

@@ -1,4 +1,4 @@
-use Rattle.std.proofs.Common.{◌≡◌, ℕ, ◌-◌, List, [], ◌∷◌, ◌∙◌, ap, arith, refl, sym}
+use Rattle.std.proofs.Common.{◌≡◌, ℕ, ◌-◌, List, [], ◌∷◌, ◌∙◌, ap, arith, refl}
 use Rattle.std.specs.Prelude.{map}
 use Rattle.cf_model.specs.Requests.{Live}
 use Rattle.cf_waits.specs.Books.{brought_forward}

@@ -1,4 +1,4 @@
-use Rattle.std.proofs.Common.{◌∙◌, Option, Some, ap, arith, length, refl, sym}
+use Rattle.std.proofs.Common.{◌∙◌, Some, ap, arith, length, refl, sym}
 use Rattle.std.proofs.lemmas.List.{get_or_default}
 use Rattle.cf_base.specs.declared.waits.Ask.{Ask}
 use Rattle.cf_model.specs.Requests.{Live}

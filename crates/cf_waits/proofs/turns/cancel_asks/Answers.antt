@@ -1,4 +1,4 @@
-use Rattle.std.proofs.Common.{◌≤◌, arith}
+use Rattle.std.proofs.Common.{arith}
 use Rattle.cf_waits.proofs.Turning.{last_cancelled, next_cancelled}
 use Rattle.cf_waits.proofs.turns.cancel_asks.Goals as goal
 

@@ -1,4 +1,4 @@
-use Rattle.std.proofs.Common.{◌∙◌, Option, Some, ap, arith, length, sym}
+use Rattle.std.proofs.Common.{◌∙◌, Some, ap, arith, length, sym}
 use Rattle.std.proofs.lemmas.List.{get_or_default}
 use Rattle.cf_model.specs.Missing.{Wait}
 use Rattle.cf_waits.specs.Rising.{wait_key}

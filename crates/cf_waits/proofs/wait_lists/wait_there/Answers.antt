@@ -1,4 +1,4 @@
-use Rattle.std.proofs.Common.{◌≡◌, ◌∙◌, Some, None, ap, arith, cond, eqb, sym}
+use Rattle.std.proofs.Common.{◌∙◌, Some, None, ap, arith, cond, eqb, sym}
 use Rattle.cf_model.specs.Missing.{Wait}
 use Rattle.cf_waits.specs.Rising.{wait_key}
 use Rattle.cf_waits.proofs.ByNumber.{at_end, at_place}

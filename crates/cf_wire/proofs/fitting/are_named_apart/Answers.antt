@@ -1,4 +1,4 @@
-use Rattle.std.proofs.Common.{◌≡◌, ◌-◌, ◌∙◌, ap, arith, subst, sym, true, Bool, ℕ, drop}
+use Rattle.std.proofs.Common.{◌≡◌, ◌-◌, ◌∙◌, ap, arith, subst, sym, true, ℕ, drop}
 use Rattle.cf_base.specs.declared.messages.Entry.{Entry}
 use Rattle.cf_model.specs.Fits.{are_named_apart}
 use Rattle.cf_wire.proofs.NamesApart.{apart_at_last, from_here, not_apart, not_apart_here, seen_at_last, seen_now, still_apart}

@@ -1,7 +1,6 @@
-use Rattle.std.proofs.Common.{ap}
 use Rattle.std.proofs.lemmas.Result.{err_from_is_err_and}
 use Rattle.cf_wire.specs.Reading.{counted_at}
-use Rattle.cf_wire.proofs.Counting.{goes_on, ends, is_done, with_front}
+use Rattle.cf_wire.proofs.Counting.{goes_on, ends, is_done}
 use Rattle.cf_wire.proofs.replies.counted.Goals as goal
 
 pub returns-in_err-entry : goal.returns-in_err-entry

@@ -1,5 +1,4 @@
 use Rattle.std.proofs.Common.{arith}
-use Rattle.cf_wire.specs.Spelled.{IsReply}
 use Rattle.cf_wire.proofs.FrameLaws.{reply_answered, reply_only}
 use Rattle.cf_wire.proofs.replies.read_reply.Goals as goal
 

@@ -1,5 +1,4 @@
 use Rattle.std.proofs.Common.{arith}
-use Rattle.cf_wire.specs.Spelled.{IsRequest}
 use Rattle.cf_wire.proofs.FrameLaws.{request_answered, request_only}
 use Rattle.cf_wire.proofs.requests.read_request.Goals as goal
 

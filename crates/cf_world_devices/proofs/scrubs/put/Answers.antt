@@ -1,2 +1,1 @@
-use Rattle.cf_world_devices.proofs.Scrubbed.{put_judgement}
 use Rattle.cf_world_devices.proofs.scrubs.put.Goals as goal

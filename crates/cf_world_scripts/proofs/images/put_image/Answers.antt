@@ -1,4 +1,3 @@
-use Rattle.cf_world_devices.proofs.Adding.{adds_nothing}
 use Rattle.cf_world_scripts.proofs.Imaged.{handed_image}
 use Rattle.cf_world_scripts.proofs.images.put_image.Goals as goal
 

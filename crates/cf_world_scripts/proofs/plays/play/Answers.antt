@@ -14,7 +14,7 @@ use Rattle.cf_world_scripts.proofs.Errs.{err_if}
 use Rattle.cf_world_scripts.proofs.WorldRuns.{run_lawful}
 use Rattle.cf_world_scripts.proofs.Traces.{all_left, counted_next, drafted_next, next_event, played_all, played_early, played_front, played_stops}
 use Rattle.cf_world_scripts.specs.Led.{HasRunOn}
-use Rattle.cf_world_scripts.specs.Runs.{answers_of, events_of}
+use Rattle.cf_world_scripts.specs.Runs.{answers_of}
 use Rattle.cf_world_scripts.specs.Steps.{AddFails, IsLawfulFrom, SomePlayed}
 use Rattle.cf_world_scripts.specs.declared.play_errors.PlayError.TheVariants.{OutOfMemory, SinkFault}
 use Rattle.cf_world_scripts.proofs.plays.play.Goals as goal

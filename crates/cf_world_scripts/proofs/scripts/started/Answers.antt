@@ -1,4 +1,3 @@
-use Rattle.std.proofs.Common.{refl}
 use Rattle.cf_world_devices.proofs.Adding.{adds_nothing}
 use Rattle.cf_world_scripts.proofs.Concluded.{unfit_as}
 use Rattle.cf_world_scripts.proofs.scripts.started.Goals as goal

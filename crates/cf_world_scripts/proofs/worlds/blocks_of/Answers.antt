@@ -1,6 +1,4 @@
 use Rattle.std.proofs.Common.{◌≡◌}
-use Rattle.std.specs.Prelude.{IfOk}
-use Rattle.cf_model.specs.State.{State}
 use Rattle.cf_state.specs.Texts.{used_blocks}
 use Rattle.cf_world_scripts.proofs.WorldRuns.{few_in, gives_text}
 use Rattle.cf_world_scripts.proofs.worlds.blocks_of.Goals as goal

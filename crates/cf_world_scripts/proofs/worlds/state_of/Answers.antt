@@ -1,6 +1,5 @@
 use Rattle.std.proofs.Common.{◌≡◌}
 use Rattle.std.specs.Prelude.{IfOk}
-use Rattle.cf_model.specs.State.{State}
 use Rattle.cf_state.specs.Texts.{state_text}
 use Rattle.cf_world_scripts.proofs.WorldRuns.{few_in, gives_text}
 use Rattle.cf_world_scripts.proofs.worlds.state_of.Goals as goal

@@ -1,4 +1,4 @@
-use Rattle.std.proofs.Common.{◌≡◌, ◌∙◌, sym, ap}
+use Rattle.std.proofs.Common.{◌∙◌, sym, ap}
 use Rattle.cf_model.specs.Words.{is_empty}
 use Rattle.cf_ask_rule.proofs.Places.{no_places}
 use Rattle.cf_ask_rule.proofs.asks.LiveAsk.has_no_block.Goals as goal

@@ -1,4 +1,4 @@
-use Rattle.std.proofs.Common.{◌≡◌, ◌∙◌, List, ap, subst, sym}
+use Rattle.std.proofs.Common.{◌∙◌, List, ap, subst, sym}
 use Rattle.cf_base.specs.declared.spans.Span.{Span}
 use Rattle.cf_model.specs.Requests.{Live, has_block}
 use Rattle.cf_ranges.specs.Positions.{IsRuns, contains}

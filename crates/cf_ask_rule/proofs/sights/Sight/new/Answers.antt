@@ -1,4 +1,3 @@
-use Rattle.std.proofs.Common.{◌≡◌}
 use Rattle.cf_ask_rule.proofs.Flags.{is_seen}
 use Rattle.cf_ask_rule.proofs.sights.Sight.new.Goals as goal
 

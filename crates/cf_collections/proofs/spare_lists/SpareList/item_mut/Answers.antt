@@ -1,4 +1,4 @@
-use Rattle.std.proofs.Common.{◌<◌, ◌^◌, ◌≡◌, ◌-◌, ◌∙◌, List, ap, arith, get_or, length, length-drop, refl, set, sym}
+use Rattle.std.proofs.Common.{◌<◌, ◌^◌, ◌≡◌, ◌∙◌, List, ap, arith, get_or, length, length-drop, refl, set, sym}
 use Rattle.std.proofs.lemmas.List.{drop-set-add, get_or-drop}
 use Rattle.cf_collections.proofs.spare_lists.SpareList.item_mut.Goals as goal
 

@@ -1,8 +1,6 @@
-use Rattle.std.proofs.Common.{◌≡◌, ◌∙◌, ℕ, ap}
+use Rattle.std.proofs.Common.{◌∙◌, ℕ, ap}
 use Rattle.cf_filter.proofs.Started.{starts_new, starts_opened}
 use Rattle.cf_filter.specs.Starting.{desk_at}
-use Rattle.cf_filter_machine.specs.Held.{Held}
-use Rattle.cf_filter_desk.specs.declared.desks.Desk.{Desk}
 use Rattle.cf_filter.proofs.filters.FilterOn.on_volume.Goals as goal
 
 pub returns-clause-new : goal.returns-clause-new

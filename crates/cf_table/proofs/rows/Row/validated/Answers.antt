@@ -1,6 +1,6 @@
 use Rattle.std.proofs.Common.{List, subst, sym}
 use Rattle.cf_base.specs.declared.spans.Span.{Span}
-use Rattle.cf_ranges.specs.Positions.{Adds, AddsAll, CutsAll, IsMissing}
+use Rattle.cf_ranges.specs.Positions.{Adds, CutsAll, IsMissing}
 use Rattle.cf_table.proofs.ByteMeans.{vouched_for}
 use Rattle.cf_table.proofs.TableMeans.{if_ok_map}
 use Rattle.cf_table.proofs.rows.Row.validated.Goals as goal

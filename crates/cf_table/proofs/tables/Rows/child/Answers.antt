@@ -1,7 +1,6 @@
-use Rattle.std.proofs.Common.{◌∙◌, List, ap, subst, sym}
+use Rattle.std.proofs.Common.{◌∙◌, List, ap}
 use Rattle.std.specs.Prelude.{find}
-use Rattle.cf_lists.specs.Ordered.{InOrder}
-use Rattle.cf_table.specs.Index.{entry_id, is_entry_of, stands_before}
+use Rattle.cf_table.specs.Index.{entry_id, is_entry_of}
 use Rattle.cf_table.specs.Tables.{Table, id_of, is_child_row}
 use Rattle.cf_table.specs.declared.entries.Entry.{Entry}
 use Rattle.cf_table.proofs.ChildrenOf.{child_is}

@@ -1,7 +1,6 @@
-use Rattle.std.proofs.Common.{◌∙◌, List, ap, subst, sym}
+use Rattle.std.proofs.Common.{◌∙◌, List, ap}
 use Rattle.std.specs.Prelude.{filter}
-use Rattle.cf_lists.specs.Ordered.{InOrder}
-use Rattle.cf_table.specs.Index.{entry_ids, is_entry_in, stands_before}
+use Rattle.cf_table.specs.Index.{entry_ids, is_entry_in}
 use Rattle.cf_table.specs.Tables.{Table, child_rows, ids_of, rows_by_name}
 use Rattle.cf_table.specs.declared.entries.Entry.{Entry}
 use Rattle.cf_table.proofs.ChildrenOf.{children_are}

@@ -1,5 +1,4 @@
-use Rattle.std.proofs.Common.{◌*◌, ℕ, List, length, sym, subst, arith}
-use Rattle.cf_volume.proofs.Stagings.{stop_later}
+use Rattle.std.proofs.Common.{◌*◌, ℕ, List, length, sym, subst}
 use Rattle.cf_volume_changes.specs.Laid.{Settles}
 use Rattle.cf_volume_points.specs.Runs.{Ran}
 use Rattle.cf_volume.proofs.stay.plan_steps.change_item.Goals as goal

@@ -1,4 +1,4 @@
-use Rattle.std.proofs.Common.{◌≡◌, length, subst}
+use Rattle.std.proofs.Common.{length, subst}
 use Rattle.cf_base.specs.declared.items.Pin.{Pin}
 use Rattle.cf_model.specs.Formats.{spell_image}
 use Rattle.cf_model.specs.Items.{Item}

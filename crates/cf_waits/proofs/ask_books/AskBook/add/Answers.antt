@@ -1,4 +1,4 @@
-use Rattle.std.proofs.Common.{◌≡◌, ◌+◌, ◌≤◌, ◌++◌, ◌∷◌, [], List, ap, arith, length, refl, subst, sym}
+use Rattle.std.proofs.Common.{◌+◌, ◌≤◌, ◌++◌, ◌∷◌, [], List, ap, arith, length, refl, subst, sym}
 use Rattle.cf_model.specs.Requests.{Live}
 use Rattle.cf_waits.proofs.AskChanges.{asks_fit, asks_pushed}
 use Rattle.cf_waits.proofs.AskEnds.{ends_pushed}

@@ -1,4 +1,4 @@
-use Rattle.std.proofs.Common.{◌≡◌, ◌∙◌, ap, arith, refl}
+use Rattle.std.proofs.Common.{ap, arith, refl}
 use Rattle.cf_waits.proofs.AgedAsks.{asks_forward, forward_aged, known_forward}
 use Rattle.cf_waits.proofs.Ages.{young}
 use Rattle.cf_waits.proofs.AskEnds.{ends_forward}

@@ -1,4 +1,4 @@
-use Rattle.std.proofs.Common.{◌≡◌, ◌<◌, ◌-◌, ◌∙◌, ap, arith}
+use Rattle.std.proofs.Common.{◌∙◌, ap, arith}
 use Rattle.cf_waits.proofs.AgedAsks.{keys_due, no_keys}
 use Rattle.cf_waits.specs.Books.{KeptAsks}
 use Rattle.cf_waits.proofs.ask_books.AskBook.expired_keys.Goals as goal

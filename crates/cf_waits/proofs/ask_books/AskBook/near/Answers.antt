@@ -1,4 +1,4 @@
-use Rattle.std.proofs.Common.{◌≡◌, ◌∙◌, List, ap, refl, subst}
+use Rattle.std.proofs.Common.{◌≡◌, List, ap, refl, subst}
 use Rattle.std.specs.Prelude.{IfOk}
 use Rattle.cf_model.specs.Requests.{Live}
 use Rattle.cf_waits.proofs.AgedAsks.{near_aged, near_told}

@@ -1,4 +1,4 @@
-use Rattle.std.proofs.Common.{◌≡◌, ◌<◌, ◌-◌, ◌∙◌, ap, arith}
+use Rattle.std.proofs.Common.{◌∙◌, ap, arith}
 use Rattle.cf_waits.proofs.AgedAsks.{first_due, none_due}
 use Rattle.cf_waits.specs.Books.{KeptAsks}
 use Rattle.cf_waits.proofs.ask_books.AskBook.next_expired.Goals as goal

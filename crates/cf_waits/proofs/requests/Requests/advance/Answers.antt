@@ -1,4 +1,4 @@
-use Rattle.std.proofs.Common.{◌≡◌, ◌∙◌, ap}
+use Rattle.std.proofs.Common.{◌∙◌, ap}
 use Rattle.cf_model.specs.Requests.{Waiting}
 use Rattle.cf_waits.proofs.Beside.{last_aged}
 use Rattle.cf_waits.proofs.Turned.{aged_sound, ticked_is}

@@ -1,4 +1,4 @@
-use Rattle.std.proofs.Common.{◌≡◌, ◌∙◌, sym}
+use Rattle.std.proofs.Common.{◌∙◌, sym}
 use Rattle.cf_ask_rule.specs.Sights.{shown}
 use Rattle.cf_waits.proofs.Planning.{cancels}
 use Rattle.cf_waits.proofs.requests.Requests.cancel.Goals as goal

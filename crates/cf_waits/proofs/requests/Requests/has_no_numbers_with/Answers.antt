@@ -1,4 +1,4 @@
-use Rattle.std.proofs.Common.{◌≡◌, ◌∙◌, ◌+◌, ◌||◌, List, ap, arith, length, sym}
+use Rattle.std.proofs.Common.{◌≡◌, ◌∙◌, ◌+◌, ◌||◌, ap, arith, length, sym}
 use Rattle.std.specs.Prelude.{nat_lt}
 use Rattle.cf_ask_rule.specs.Plans.{Planned}
 use Rattle.cf_model.specs.Requests.{Waiting, with_waits}

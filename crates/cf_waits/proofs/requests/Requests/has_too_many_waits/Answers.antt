@@ -1,4 +1,4 @@
-use Rattle.std.proofs.Common.{◌≡◌, ◌+◌, ◌≤◌, ◌&&◌, ◌∙◌, List, ap, arith, length, not}
+use Rattle.std.proofs.Common.{◌&&◌, ◌∙◌, List, ap, arith, length, not}
 use Rattle.std.specs.Prelude.{count_by, filter}
 use Rattle.cf_ask_rule.specs.Plans.{Planned}
 use Rattle.cf_base.specs.declared.waits.Cause.{Cause}

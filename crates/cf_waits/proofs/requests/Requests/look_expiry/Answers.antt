@@ -1,4 +1,4 @@
-use Rattle.std.proofs.Common.{◌≡◌, ◌∙◌, List, ap, refl, subst, sym}
+use Rattle.std.proofs.Common.{◌≡◌, ◌∙◌, List, ap, refl, subst}
 use Rattle.std.specs.Prelude.{IfOk, IfSome}
 use Rattle.cf_ask_rule.specs.Narrowing.{AreAlike, AreNear, MayPlan, PlansExpiry}
 use Rattle.cf_model.specs.Missing.{Wait}

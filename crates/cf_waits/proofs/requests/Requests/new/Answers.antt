@@ -1,4 +1,4 @@
-use Rattle.std.proofs.Common.{◌≤◌, arith}
+use Rattle.std.proofs.Common.{arith}
 use Rattle.cf_waits.proofs.Turned.{none_sound}
 use Rattle.cf_waits.proofs.requests.Requests.new.Goals as goal
 

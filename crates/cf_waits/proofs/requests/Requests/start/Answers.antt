@@ -1,4 +1,4 @@
-use Rattle.std.proofs.Common.{◌≡◌, Bool, Some, None, cond, subst}
+use Rattle.std.proofs.Common.{Bool, Some, None, cond, subst}
 use Rattle.cf_ask_rule.specs.Sights.{shown}
 use Rattle.cf_model.specs.Asks.{step_of}
 use Rattle.cf_model.specs.Requests.{Nothing}

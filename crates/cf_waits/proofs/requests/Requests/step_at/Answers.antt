@@ -1,4 +1,4 @@
-use Rattle.std.proofs.Common.{◌≡◌, subst}
+use Rattle.std.proofs.Common.{subst}
 use Rattle.cf_base.specs.declared.ids.ItemId.{ItemId}
 use Rattle.cf_ask_rule.specs.Deeds.{deed_of}
 use Rattle.cf_ask_rule.specs.Sights.{shown}

@@ -1,4 +1,4 @@
-use Rattle.std.proofs.Common.{◌≡◌, ◌+◌, ◌≤◌, ◌++◌, ◌∙◌, List, ap, arith, length, not, refl, subst, sym}
+use Rattle.std.proofs.Common.{◌+◌, ◌++◌, ◌∙◌, List, ap, arith, not, refl, subst, sym}
 use Rattle.std.specs.Prelude.{filter, map}
 use Rattle.cf_model.specs.Requests.{Live, Waiting}
 use Rattle.cf_waits.proofs.Turned.{asks_rise, kept_is, on_err, turned_is, waits_rise}

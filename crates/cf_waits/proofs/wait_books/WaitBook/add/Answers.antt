@@ -1,4 +1,4 @@
-use Rattle.std.proofs.Common.{◌≡◌, ◌+◌, ◌≤◌, length, ◌++◌, ◌∷◌, [], ◌∙◌, List, ap, arith, refl, subst, sym}
+use Rattle.std.proofs.Common.{◌+◌, ◌≤◌, length, ◌++◌, ◌∷◌, [], List, ap, arith, refl, subst, sym}
 use Rattle.cf_model.specs.Missing.{Wait}
 use Rattle.cf_waits.proofs.Booked.{in_order, push_done, waits_fit, waits_pushed}
 use Rattle.cf_waits.specs.Books.{KeptWaits, wait_entry}
