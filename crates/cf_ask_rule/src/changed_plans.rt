@@ -7,7 +7,6 @@ ghost use Rattle.cf_ask_rule.specs.Owners.{AreApart};
 ghost use Rattle.cf_ask_rule.specs.Places.{places};
 ghost use Rattle.cf_model.specs.Asks.{ended_of};
 ghost use Rattle.cf_model.specs.Missing.{Wait, is_met, needed};
-ghost use Rattle.cf_model.specs.Numbers.{same_key};
 ghost use Rattle.cf_model.specs.Requests.{Live, has_block, live_of};
 ghost use Rattle.cf_model.specs.Words.{counting, says};
 

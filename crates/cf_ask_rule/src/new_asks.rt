@@ -3,7 +3,7 @@ ghost use Rattle.std.specs.Prelude.{◌≡◌, ℕ, Bool, ◌+◌, ◌/◌, ◌^
 ghost use Rattle.std.specs.List.{AllByRecursion, list_any};
 ghost use Rattle.cf_ask_rule.specs.Nexts.{Wants};
 ghost use Rattle.cf_ask_rule.specs.Places.{places};
-ghost use Rattle.cf_model.specs.Asks.{ask_of_run, dehydrate_ask, dehydrate_asks, is_fetched, is_owned, is_wanted, list_ask, list_asks, new_asks, open_blocks, runs_of, runs_on};
+ghost use Rattle.cf_model.specs.Asks.{ask_of_run, dehydrate_ask, dehydrate_asks, is_fetched, is_wanted, list_ask, list_asks, new_asks, open_blocks, runs_of, runs_on};
 ghost use Rattle.cf_model.specs.Numbers.{same_key};
 ghost use Rattle.cf_model.specs.Requests.{is_dehydrate_wait, is_list};
 ghost use Rattle.cf_base.specs.declared.waits.AskKind.{AskKind};

@@ -1,5 +1,5 @@
 //! A view, made ready for many questions.
-ghost use Rattle.std.specs.Prelude.{◌≡◌, ℕ, not, ◌+◌, ◌||◌, ◌^◌, ◌<◌, ◌≤◌, IfOk, IfSome, IsTrue, length, max, min};
+ghost use Rattle.std.specs.Prelude.{◌≡◌, ℕ, not, ◌+◌, ◌||◌, ◌^◌, ◌<◌, ◌≤◌, IfOk, IfSome, IsTrue, length, min};
 ghost use Rattle.cf_model.specs.Missing.{any_between};
 ghost use Rattle.cf_ranges.specs.Positions.{contains, IsRuns};
 ghost use Rattle.cf_ask_rule.specs.Narrowing.{Narrows};

@@ -1,6 +1,6 @@
 //! Spans of places.
 
-ghost use Rattle.std.specs.Prelude.{◌≡◌, ◌+◌, ◌/◌, ◌<◌, ◌≤◌, ◌^◌, ◌↔◌, ℕ};
+ghost use Rattle.std.specs.Prelude.{◌≡◌, ◌+◌, ◌/◌, ◌≤◌, ◌^◌, ℕ};
 ghost use Rattle.cf_base.specs.Spans.{IsIn, Touches};
 ghost use Rattle.cf_base.specs.declared.limits.TheConstants.{BLOCK_BYTES};
 

@@ -1,6 +1,5 @@
 //! Calls that wait, and what the provider is asked for them.
 
-ghost use Rattle.std.specs.Prelude.{◌≡◌, IfOk};
 
 use crate::bytes::Blob;
 use crate::codes::Code;

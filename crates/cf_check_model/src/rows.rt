@@ -3,7 +3,7 @@
 ghost use Rattle.std.specs.Prelude.{◌++◌};
 ghost use Rattle.cf_check_model.specs.Judging.{accepts};
 ghost use Rattle.cf_check_model.specs.Reports.{DeviceFails, device_line};
-ghost use Rattle.cf_check_model.specs.Rows.{before_last, changed_report, inline_read, line, read_report};
+ghost use Rattle.cf_check_model.specs.Rows.{before_last, changed_report, inline_read, read_report};
 
 /// The report of a script is accepted whole.
 pub fn a_lawful_report_is_accepted()

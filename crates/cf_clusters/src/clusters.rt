@@ -1,5 +1,5 @@
 //! The clusters of a volume.
-ghost use Rattle.std.specs.Prelude.{◌≡◌, ◌<◌, ◌≤◌, ◌+◌, ◌*◌, ◌↔◌, ◌∷◌, [], ℕ, length, map, replicate, slice_set, true, All, None, Some, Err, IfSome, IfNone, IfOk, OnOk, OnErr};
+ghost use Rattle.std.specs.Prelude.{◌≡◌, ◌<◌, ◌≤◌, ◌+◌, ◌*◌, ◌↔◌, [], length, map, replicate, slice_set, true, All, None, Some, Err, IfSome, IfNone, IfOk, OnOk, OnErr};
 ghost use Rattle.std.specs.List.{position_or_len};
 ghost use Rattle.std.specs.Option.{ForSome};
 ghost use Rattle.cf_disk.specs.Disk.{size_of, part, SameBut, HasFailed, Leaves, Keeps, Counts, Rises, Spends, may_fail};

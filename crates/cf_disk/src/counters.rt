@@ -1,6 +1,6 @@
 //! The armed number and the count of faults.
 
-ghost use Rattle.std.specs.Prelude.{◌≡◌, ◌≤◌, ◌+◌, ◌<◌, ◌↔◌, ◌^◌, Some, IsTrue, if◌then◌else◌};
+ghost use Rattle.std.specs.Prelude.{◌≡◌, ◌≤◌, ◌+◌, ◌<◌, ◌↔◌, Some, IsTrue, if◌then◌else◌};
 ghost use Rattle.cf_disk.specs.Disk.{capped, counted, may_fail};
 
 // Counts a call, and tells whether it has to fail. Then the fault is counted too.

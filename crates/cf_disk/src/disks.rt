@@ -1,6 +1,6 @@
 //! What a disk promises.
 
-ghost use Rattle.std.specs.Prelude.{◌≡◌, ◌+◌, ◌≤◌, Some, option_map, List, ℕ, length, OnOk, OnErr};
+ghost use Rattle.std.specs.Prelude.{◌≡◌, ◌+◌, ◌≤◌, Some, option_map, List, ℕ, length, OnOk};
 ghost use Rattle.cf_disk.specs.Disk.{State, aimed_at, size_of, part, Holds, Keeps, Follows, Only, Goes, Counts, Rises, Powers, IsUnchanged, Spends};
 
 use cf_base::Choice;

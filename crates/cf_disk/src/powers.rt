@@ -1,6 +1,6 @@
 //! The power cuts of a disk that keeps them.
 
-ghost use Rattle.std.specs.Prelude.{◌≡◌, ◌≤◌, ◌<◌, ◌+◌, ◌++◌, ◌∷◌, [], List, ℕ, length, IfOk, true, false};
+ghost use Rattle.std.specs.Prelude.{◌≡◌, ◌<◌, [], length, IfOk, true, false};
 ghost use Rattle.cf_disk.specs.PowerBooks.{PowerBook, added};
 
 use cf_base::{Choice, OutOfMemory};

@@ -1,6 +1,6 @@
 //! The calls of a disk that keeps them.
 
-ghost use Rattle.std.specs.Prelude.{◌≡◌, ◌≤◌, ◌↔◌, ◌++◌, ◌∷◌, [], List, ℕ, length, IfOk, IsTrue};
+ghost use Rattle.std.specs.Prelude.{◌≡◌, ◌↔◌, ◌++◌, ◌∷◌, [], length, IfOk, IsTrue};
 ghost use Rattle.cf_disk.specs.Trails.{Trail, HasRoom};
 
 use cf_base::OutOfMemory;

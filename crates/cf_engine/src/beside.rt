@@ -1,6 +1,6 @@
 //! Events that need no volume: those of other devices, and messages that are handed to the remote.
 
-ghost use Rattle.std.specs.Prelude.{◌≡◌, ◌<◌, ◌^◌, true};
+ghost use Rattle.std.specs.Prelude.{◌≡◌, ◌<◌, true};
 ghost use Rattle.cf_base.specs.declared.events.EngineEvent.TheVariants as engine;
 ghost use Rattle.cf_base.specs.declared.events.Event.TheVariants as events;
 ghost use Rattle.cf_engine.specs.Actors.{acts_of};

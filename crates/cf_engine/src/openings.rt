@@ -1,6 +1,6 @@
 //! Whether rows and records are such as an engine leaves.
 
-ghost use Rattle.std.specs.Prelude.{◌≡◌, ◌↔◌, ◌&&◌, All, Bool, IfOk, IsTrue, map, true};
+ghost use Rattle.std.specs.Prelude.{◌≡◌, ◌↔◌, ◌&&◌, All, IfOk, IsTrue, map, true};
 ghost use Rattle.std.specs.List.{list_all};
 ghost use Rattle.cf_engine.specs.Openings.{FitsEngine, RecordFits, has_uploaded, is_ours, is_uploaded, said_fits, upload_fits};
 ghost use Rattle.cf_engine_queue.specs.Books.{action_of};

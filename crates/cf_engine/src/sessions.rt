@@ -1,6 +1,6 @@
 //! Events of the engine on the open volume.
 
-ghost use Rattle.std.specs.Prelude.{◌≡◌, false, true};
+ghost use Rattle.std.specs.Prelude.{◌≡◌, true};
 ghost use Rattle.cf_base.specs.declared.events.Event.TheVariants as events;
 ghost use Rattle.cf_engine.specs.Actors.{acts_of};
 ghost use Rattle.cf_engine.specs.Sessions.{StepsEngine, said};

@@ -1,6 +1,6 @@
 //! What is below an item.
 
-ghost use Rattle.std.specs.Prelude.{◌≡◌, ◌||◌, List};
+ghost use Rattle.std.specs.Prelude.{◌≡◌, List};
 ghost use Rattle.cf_model.specs.Feeds.{is_under};
 ghost use Rattle.cf_model.specs.Items.{Item};
 ghost use Rattle.cf_table.specs.Tables.{MeansAll};

@@ -1,11 +1,10 @@
 //! The steps of an entry that is changed: it is live and known, and its parent is here.
 
-ghost use Rattle.std.specs.Prelude.{◌≡◌, ◌==◌, ◌&&◌, ◌++◌, IfOk, OnOk, List, Option, Some, nat_lt, not, option_copied};
-ghost use Rattle.cf_base.specs.Names.{is_name};
+ghost use Rattle.std.specs.Prelude.{◌≡◌, ◌==◌, ◌&&◌, ◌++◌, IfOk, OnOk, List, Option, Some, option_copied};
 ghost use Rattle.cf_base.specs.declared.changes.Change.{Change};
 ghost use Rattle.cf_model.specs.ConflictNames.{conflict_name};
 ghost use Rattle.cf_model.specs.Feeds.{is_newer, is_path_of, name_in_root, stands_in};
-ghost use Rattle.cf_model.specs.Items.{Item, item_of};
+ghost use Rattle.cf_model.specs.Items.{Item};
 ghost use Rattle.cf_model.specs.Words.{says};
 ghost use Rattle.cf_engine_feed_plan.specs.Lists.{changed_steps, copied_off, copy_of, enter, lift, move_steps, take_steps};
 ghost use Rattle.cf_table.specs.Means.{Means};

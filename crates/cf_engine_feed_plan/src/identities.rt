@@ -3,7 +3,7 @@
 ghost use Rattle.std.specs.Prelude.{◌≡◌, ◌==◌, ◌++◌, ◌+◌, ◌*◌, [], IfOk, drop, min, nat_lt, take};
 ghost use Rattle.cf_model.specs.Effects.{untargeted};
 ghost use Rattle.cf_model.specs.Identities.{entry_identity, no_identity};
-ghost use Rattle.cf_model.specs.Words.{in_bytes, number_from, number_of};
+ghost use Rattle.cf_model.specs.Words.{in_bytes, number_of};
 
 use cf_base::{Entry, Identity, OutOfMemory};
 use std::alloc::Global;

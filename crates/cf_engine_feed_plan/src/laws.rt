@@ -1,6 +1,6 @@
 //! Laws for those who carry steps out.
 
-ghost use Rattle.std.specs.Prelude.{◌≡◌, Bool, List, Option, Result, Some};
+ghost use Rattle.std.specs.Prelude.{◌≡◌, Bool, List, Result, Some};
 ghost use Rattle.cf_base.specs.declared.changes.Change.{Change};
 ghost use Rattle.cf_base.specs.declared.codes.CallError.{CallError};
 ghost use Rattle.cf_base.specs.declared.ids.ItemId.{ItemId};

@@ -1,6 +1,6 @@
 //! The steps of an entry that is new: it is live and not known, and its parent is here.
 
-ghost use Rattle.std.specs.Prelude.{◌≡◌, ◌==◌, ◌&&◌, IfOk, List, option_copied};
+ghost use Rattle.std.specs.Prelude.{◌≡◌, ◌&&◌, IfOk, List, option_copied};
 ghost use Rattle.cf_model.specs.Feeds.{is_adoptable, kind_of_entry, seen_entry};
 ghost use Rattle.cf_model.specs.Items.{Item};
 ghost use Rattle.cf_model.specs.LookUp.{child_of};

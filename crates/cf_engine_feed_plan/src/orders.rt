@@ -1,6 +1,6 @@
 //! The order of a feed's entries.
 
-ghost use Rattle.std.specs.Prelude.{◌≡◌, ◌++◌, ◌-◌, ◌≤◌, IfOk, List, None, OnOk, map, nat_lt, slice_get};
+ghost use Rattle.std.specs.Prelude.{◌≡◌, ◌++◌, ◌-◌, IfOk, List, None, OnOk, map, nat_lt, slice_get};
 ghost use Rattle.cf_base.specs.declared.messages.Entry.{Entry};
 ghost use Rattle.cf_model.specs.Feeds.{depth_of_entry};
 ghost use Rattle.cf_model.specs.Feeds as feeds;

@@ -1,6 +1,6 @@
 //! What the engine needs of a filter besides the steps of calls.
 
-ghost use Rattle.std.specs.Prelude.{◌≡◌, ◌∷◌, [], List, Ok};
+ghost use Rattle.std.specs.Prelude.{◌∷◌, [], Ok};
 ghost use Rattle.cf_base.specs.declared.answers.AuxRecord.{AuxRecord};
 ghost use Rattle.cf_engine_host.specs.BookSteps.{DropsRecord, HasNumber, PutsBeside, put_outcome, records_of, why_full, with_book_of};
 ghost use Rattle.cf_engine_host.specs.Draining.{DrainsBy};

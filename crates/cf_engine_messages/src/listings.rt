@@ -1,6 +1,6 @@
 //! Entries of a directory, as the engine takes them outside a callback.
 
-ghost use Rattle.std.specs.Prelude.{◌≡◌, IfOk};
+ghost use Rattle.std.specs.Prelude.{IfOk};
 ghost use Rattle.cf_base.specs.declared.answers.Shown.TheVariants as shown;
 ghost use Rattle.cf_engine_messages.specs.Listings.{AreListed, Spells};
 ghost use Rattle.cf_engine_provider.specs.Parts.{give_entries};

@@ -1,6 +1,5 @@
 //! Asks for which nothing comes.
 
-ghost use Rattle.std.specs.Prelude.{◌≡◌};
 ghost use Rattle.cf_engine_messages.specs.Refusals.{refuse_at};
 ghost use Rattle.cf_engine_provider.specs.Parts.{refuse_ask};
 ghost use Rattle.cf_engine_steps.specs.Answering.{Answers, Any};

@@ -1,9 +1,7 @@
 //! Operations inside a callback, and what they come to.
 
-ghost use Rattle.std.specs.Prelude.{◌≡◌, []};
-ghost use Rattle.cf_engine_provider.specs.Agencies.{Any, Performs, Plays};
+ghost use Rattle.std.specs.Prelude.{◌≡◌};
 ghost use Rattle.cf_engine_provider.specs.Parts.{Tries, tried_of};
-ghost use Rattle.cf_model.specs.Fetching.{do_op};
 
 use cf_base::{CallError, Code, Operation, OutOfMemory, SeenPath};
 use cf_provider::Port;

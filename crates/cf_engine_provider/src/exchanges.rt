@@ -1,6 +1,6 @@
 //! A request, and its reply under an inline link.
 
-ghost use Rattle.std.specs.Prelude.{◌≡◌, IfOk};
+ghost use Rattle.std.specs.Prelude.{IfOk};
 ghost use Rattle.cf_engine_provider.specs.Parts.{Exchanges};
 ghost use Rattle.cf_wire.specs.Spelled.{HasRoom};
 

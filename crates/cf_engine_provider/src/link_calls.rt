@@ -1,6 +1,6 @@
 //! The link's own calls, for an engine that keeps its link in its provider.
 
-ghost use Rattle.std.specs.Prelude.{◌≡◌, ◌<◌, ◌-◌, ◌^◌, IfErr, IfOk, OnErr, true};
+ghost use Rattle.std.specs.Prelude.{◌≡◌, ◌<◌, ◌-◌, ◌^◌, IfErr, IfOk, OnErr};
 ghost use Rattle.cf_base.specs.declared.notices.Frame.TheVariants as frame;
 ghost use Rattle.cf_link.specs.Linked.{Arrives, Does, DoesPeer, Posts, Rises, Stopped, StopsPeer, posted_line};
 ghost use Rattle.cf_model.specs.Messages.{come};

@@ -1,6 +1,6 @@
 //! What a port shows as a list ask comes.
 
-ghost use Rattle.std.specs.Prelude.{◌≡◌, IfOk};
+ghost use Rattle.std.specs.Prelude.{IfOk};
 ghost use Rattle.cf_engine_provider.specs.Findings.{Knows};
 ghost use Rattle.cf_provider.specs.Sights.{Shows};
 ghost use Rattle.cf_model.specs.State.{Filter};

@@ -1,6 +1,6 @@
 //! What replies do, each by one operation on its ask.
 
-ghost use Rattle.std.specs.Prelude.{◌≡◌, [], length};
+ghost use Rattle.std.specs.Prelude.{[]};
 ghost use Rattle.cf_engine_provider.specs.Agencies.{Any, Performs, Plays};
 ghost use Rattle.cf_engine_provider.specs.Parts.{Skips};
 ghost use Rattle.cf_base.specs.declared.answers.Shown.TheVariants as shown;

@@ -1,9 +1,9 @@
 //! Single records of a book, found by their keys.
 
-ghost use Rattle.std.specs.Prelude.{◌≡◌, ◌==◌, ◌&&◌, ◌++◌, codes, IfOk, option_copied, option_map, slice_get};
+ghost use Rattle.std.specs.Prelude.{◌≡◌, ◌==◌, ◌&&◌, codes, IfOk, option_copied, option_map, slice_get};
 ghost use Rattle.cf_base.specs.declared.items.SeenPath.{SeenPath as SeenAt};
-ghost use Rattle.cf_model.specs.Books.{Book, aux_records, entry_of, key_bytes, seen_of, tombstone_of, usn_bytes};
-ghost use Rattle.cf_model.specs.Words.{comes_before, in_bytes, same, says};
+ghost use Rattle.cf_model.specs.Books.{Book, aux_records, entry_of, seen_of, tombstone_of};
+ghost use Rattle.cf_model.specs.Words.{comes_before, same, says};
 ghost use Rattle.cf_engine_queue.specs.Books.{entry_value, tombstone_value};
 ghost use Rattle.cf_engine_queue.specs.Keys.{AreByKey, record_at};
 ghost use Rattle.cf_engine_queue.specs.Order.{Divides};

@@ -5,7 +5,7 @@ ghost use Rattle.cf_engine_queue.specs.Books.{entry_value};
 ghost use Rattle.cf_engine_replies.specs.Marks.{marked, see_then_mark, seen_and_marked};
 ghost use Rattle.cf_engine_steps.specs.Answering.{Answers, Any};
 ghost use Rattle.cf_engine_steps.specs.States.{whole};
-ghost use Rattle.cf_model.specs.PushReplies.{entry_seen, is_new_by, is_new_entry, see_and_mark};
+ghost use Rattle.cf_model.specs.PushReplies.{entry_seen, is_new_entry, see_and_mark};
 ghost use Rattle.cf_model.specs.Skips.{try_seen};
 
 use cf_base::{CallError, Name, OutOfMemory, SeenPath, no_such_state};

@@ -1,6 +1,6 @@
 //! Which files may be dehydrated as things are.
 
-ghost use Rattle.std.specs.Prelude.{◌≡◌, ◌++◌, IfOk, None, OnOk, Some, cond, is_some, not, ◌||◌};
+ghost use Rattle.std.specs.Prelude.{◌≡◌, ◌++◌, IfOk, None, OnOk, Some, cond, is_some, not};
 ghost use Rattle.std.specs.List.{list_any};
 ghost use Rattle.cf_engine_space.specs.Candidates.{IsCandidate, IsCandidates, IsEligible, files_in};
 ghost use Rattle.cf_model.specs.Blocks.{blocks_held};

@@ -1,6 +1,6 @@
 //! Remotes that fail or break their rules, and versions that are gone.
 
-ghost use Rattle.std.specs.Prelude.{List, [], ◌∷◌};
+ghost use Rattle.std.specs.Prelude.{[], ◌∷◌};
 ghost use Rattle.cf_base.specs.declared.policies.Mode.TheVariants.{Replay};
 ghost use Rattle.cf_model.specs.Trees.Telling.{AsItKeeps, Faults, Tells};
 ghost use Rattle.cf_examples.specs.Transcripts.{Plays, PlaysBy, after, meeting, short_reply};

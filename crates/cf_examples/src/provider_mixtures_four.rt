@@ -1,6 +1,6 @@
 //! Events of a provider in a random order.
 
-ghost use Rattle.std.specs.Prelude.{List, [], ◌∷◌};
+ghost use Rattle.std.specs.Prelude.{[]};
 ghost use Rattle.cf_base.specs.declared.policies.Mode.TheVariants.{Filter};
 ghost use Rattle.cf_examples.specs.Transcripts.{Plays, PlaysLines};
 ghost use Rattle.cf_examples.specs.ProviderMixturesFour as provider_mixtures_four;

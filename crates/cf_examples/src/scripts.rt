@@ -1,6 +1,6 @@
 //! What is a script.
 
-ghost use Rattle.std.specs.Prelude.{◌≡◌, List, [], ◌∷◌, ◌++◌, Some, codes};
+ghost use Rattle.std.specs.Prelude.{◌≡◌, [], ◌∷◌, ◌++◌, Some, codes};
 ghost use Rattle.cf_base.specs.declared.policies.Mode.TheVariants.{Filter, Replay};
 ghost use Rattle.cf_examples.specs.Parse.{BadLine, read};
 ghost use Rattle.cf_examples.specs.Transcripts.{HasBadLine, Plays, reported};

@@ -1,6 +1,6 @@
 //! Room that is made by dehydration.
 
-ghost use Rattle.std.specs.Prelude.{List, [], ◌∷◌};
+ghost use Rattle.std.specs.Prelude.{[]};
 ghost use Rattle.cf_base.specs.declared.policies.Mode.TheVariants.{Filter, Replay};
 ghost use Rattle.cf_examples.specs.Transcripts.{Plays, PlaysLines};
 ghost use Rattle.cf_examples.specs.Space as space;

@@ -1,6 +1,6 @@
 //! Devices that fail, and what a restart finds.
 
-ghost use Rattle.std.specs.Prelude.{List, [], ◌∷◌};
+ghost use Rattle.std.specs.Prelude.{[], ◌∷◌};
 ghost use Rattle.cf_base.specs.declared.policies.Mode.TheVariants.{Replay};
 ghost use Rattle.cf_examples.specs.Transcripts.{Plays, PlaysBy, after, second_way, stopping};
 ghost use Rattle.cf_examples.specs.Stops as stops;

@@ -1,6 +1,6 @@
 //! Paths seen, as the auxiliary records that come beside the entries of a directory.
 
-ghost use Rattle.std.specs.Prelude.{◌≡◌, IfOk};
+ghost use Rattle.std.specs.Prelude.{IfOk};
 ghost use Rattle.cf_engine_queue.specs.Records.{IsSeen};
 ghost use Rattle.cf_filter.specs.Porting.{Spells};
 

@@ -1,6 +1,6 @@
 //! Consent of a provider to a dehydration, or none.
 
-ghost use Rattle.std.specs.Prelude.{◌≡◌, List, IfOk, false, true};
+ghost use Rattle.std.specs.Prelude.{List, IfOk, false, true};
 ghost use Rattle.cf_base.specs.declared.answers.AuxRecord.{AuxRecord};
 ghost use Rattle.cf_base.specs.declared.ids.Key.{Key};
 ghost use Rattle.cf_base.specs.declared.operations.Operation.TheVariants as operation;

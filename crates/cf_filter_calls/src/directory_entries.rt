@@ -1,6 +1,6 @@
 //! Entries of a directory, which a provider gives to a list ask.
 
-ghost use Rattle.std.specs.Prelude.{◌≡◌, IfOk, List, [], ◌∷◌, not};
+ghost use Rattle.std.specs.Prelude.{◌≡◌, IfOk, [], ◌∷◌, not};
 ghost use Rattle.cf_base.specs.declared.answers.AuxRecord.{AuxRecord};
 ghost use Rattle.cf_base.specs.declared.codes.Code.TheVariants as code;
 ghost use Rattle.cf_base.specs.declared.ids.Key.{Key};

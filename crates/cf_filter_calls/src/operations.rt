@@ -1,6 +1,5 @@
 //! Operations of a provider (CfExecute).
 
-ghost use Rattle.std.specs.Prelude.{◌≡◌, List};
 ghost use Rattle.cf_base.specs.declared.answers.AuxRecord.{AuxRecord};
 ghost use Rattle.cf_filter_calls.specs.Executing.{IsFree, ask_at, base_named, op_refusal};
 ghost use Rattle.cf_filter_calls.specs.Operating.{IsLiveFor, Keeps};

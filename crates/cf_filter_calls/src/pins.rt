@@ -1,6 +1,5 @@
 //! Pin states.
 
-ghost use Rattle.std.specs.Prelude.{◌≡◌};
 ghost use Rattle.cf_model.specs.Calls.{change_all as all_changed, pin_item, set_pin};
 ghost use Rattle.cf_model.specs.Items.{Item};
 ghost use Rattle.cf_filter_steps.specs.Answering.{Answers, Any, IsAt};

@@ -1,6 +1,5 @@
 //! Placeholders: an item becomes one, ceases to be one, gets another identity or version, is not in sync.
 
-ghost use Rattle.std.specs.Prelude.{◌≡◌};
 ghost use Rattle.cf_model.specs.Arrows.{reading};
 ghost use Rattle.cf_model.specs.Items.{Item};
 ghost use Rattle.cf_model.specs.Placements.{convert, convert_item, planned_on, revert, revert_item, revert_plan, unmark, unmark_item, update, update_item, update_plan};

@@ -1,7 +1,7 @@
 //! The world, on and off.
 #![tactic(auto, using(crate::proofs::Wholes::begins))]
 
-ghost use Rattle.std.specs.Prelude.{◌≡◌, ◌≤◌, ℕ, List, Some, true, IfErr, IfOk};
+ghost use Rattle.std.specs.Prelude.{◌≡◌, ℕ, List, Some, true, IfErr, IfOk};
 ghost use Rattle.cf_filter_events.specs.Counted.{CountsBy, CountsOver, GoesOn, arms, arms_in};
 ghost use Rattle.cf_filter_events.specs.Faulted.{Faults, FaultsTo};
 ghost use Rattle.cf_filter_events.specs.Meaning.{Is};

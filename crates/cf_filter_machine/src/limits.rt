@@ -1,10 +1,9 @@
 //! Whether a change is within the limits of a volume.
 
-ghost use Rattle.std.specs.Prelude.{◌≡◌, ◌≤◌, ◌<◌, IsTrue, MatchOption, length, option_copied};
+ghost use Rattle.std.specs.Prelude.{◌≤◌, ◌<◌, IsTrue, MatchOption, length, option_copied};
 ghost use Rattle.cf_volume_points.specs.Keeping.{IsNextId};
 ghost use Rattle.cf_table.specs.Applied.{FitsRow};
-ghost use Rattle.cf_table.specs.Changing.{Fits, FitsRows, IsNewItem, item_of_change};
-ghost use Rattle.cf_table.specs.Tables.{row_of};
+ghost use Rattle.cf_table.specs.Changing.{Fits, FitsRows, IsNewItem};
 
 use cf_base::{Change, ItemId};
 use cf_table::{Row, Rows, item_of};

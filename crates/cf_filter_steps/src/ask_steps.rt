@@ -1,6 +1,6 @@
 //! What follows a step: the ask rule on one item, and its lines.
 
-ghost use Rattle.std.specs.Prelude.{◌≡◌, IfOk};
+ghost use Rattle.std.specs.Prelude.{IfOk};
 ghost use Rattle.cf_ask_rule.specs.Deeds.{deed_of};
 ghost use Rattle.cf_base.specs.declared.ids.ItemId.{ItemId};
 ghost use Rattle.cf_model.specs.Arrows.{each, reading};

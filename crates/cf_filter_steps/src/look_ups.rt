@@ -1,6 +1,5 @@
 //! Where a path leads.
 
-ghost use Rattle.std.specs.Prelude.{◌≡◌};
 ghost use Rattle.cf_model.specs.Calls.{below_at, place_at};
 ghost use Rattle.cf_model.specs.Waits.{at_path};
 ghost use Rattle.cf_filter_steps.specs.Finding.{Finds, FindsBelow, FindsPlace};

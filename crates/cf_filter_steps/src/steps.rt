@@ -1,7 +1,6 @@
 //! What the calls of a filter are made of.
 
 ghost use Rattle.std.specs.Prelude.{◌≡◌, IfOk, OnOk, Ok};
-ghost use Rattle.cf_ask_rule.specs.Plans.{Planned};
 ghost use Rattle.cf_model.specs.Arrows.{noted, one, unit};
 ghost use Rattle.cf_model.specs.Asks.{downed};
 ghost use Rattle.cf_model.specs.Calls.{count_now, next_handle, with_handle, with_policy};

@@ -1,6 +1,6 @@
 //! Made scripts as they are written.
 
-ghost use Rattle.std.specs.Prelude.{◌≡◌, ◌∷◌, ◌++◌, [], IfOk, OnOk, string_bytes};
+ghost use Rattle.std.specs.Prelude.{◌≡◌, IfOk, string_bytes};
 ghost use Rattle.cf_script_words.specs.Texts.{line_of};
 ghost use Rattle.cf_gen.specs.Lines.{repeated, text_of, words_of};
 ghost use Rattle.cf_gen.specs.declared.lines.Line.TheVariants as meant;

@@ -1,6 +1,6 @@
 //! A source and a sink in memory, of which listed calls fail.
 
-ghost use Rattle.std.specs.Prelude.{◌≡◌, ◌≤◌, ◌⊎◌, [], ◌++◌, take, drop, length, Some, IfOk};
+ghost use Rattle.std.specs.Prelude.{◌≡◌, ◌≤◌, ◌⊎◌, [], take, drop, length, Some, IfOk};
 ghost use Rattle.cf_io.specs.Moves.{Store, Rose};
 
 use crate::faults::IoError;

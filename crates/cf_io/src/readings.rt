@@ -1,6 +1,6 @@
 //! The bytes of a source, up to a limit.
 
-ghost use Rattle.std.specs.Prelude.{◌≡◌, ◌<◌, ◌≤◌, ◌^◌, ◌++◌, ℕ, List, length, IfOk, IsErrOf};
+ghost use Rattle.std.specs.Prelude.{◌≡◌, ◌<◌, ◌≤◌, ◌^◌, length, IfOk, IsErrOf};
 ghost use Rattle.cf_io.specs.Moves.{AddsPiece, IsFront, IsLonger, IsWhole, Rose, Takes};
 
 use crate::faults::ReadError;

@@ -1,6 +1,6 @@
 //! Where bytes go.
 
-ghost use Rattle.std.specs.Prelude.{◌≡◌, ℕ, ◌<◌, ◌≤◌, List, [], length, take, Option, OnOk, OnErr, IfOk};
+ghost use Rattle.std.specs.Prelude.{ℕ, ◌<◌, ◌≤◌, List, [], length, take, Option, OnOk, OnErr, IfOk};
 ghost use Rattle.cf_io.specs.Moves.{Rose, Adds, AddsFront};
 
 use crate::faults::IoError;

@@ -52,7 +52,7 @@ pub struct Opened {
 }
 
 impl Journal {
-    ghost use Rattle.std.specs.Prelude.{◌≡◌, ◌≤◌, ◌↔◌, ◌+◌, ℕ, length, true, false, Err, IsTrue, IfErr, OnOk, OnErr, IfOk, ◌⊎◌};
+    ghost use Rattle.std.specs.Prelude.{◌≡◌, ◌≤◌, ◌↔◌, ◌+◌, length, true, false, Err, IsTrue, IfErr, OnOk, OnErr, IfOk, ◌⊎◌};
     ghost use Rattle.cf_disk.specs.Disk.{size_of, may_fail, Only, Leaves, Counts};
     ghost use Rattle.cf_journal.specs.Content.{Content, Stands, IsBeforeOrAfter, IsFormatting, appended, rewritten, clusters};
     ghost use Rattle.cf_journal.specs.Settled.{IsFitSize, Settled, HasRoom, IsCause, IsOpenCause};

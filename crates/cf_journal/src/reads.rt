@@ -1,6 +1,6 @@
 //! Calls that only read the disk.
 
-ghost use Rattle.std.specs.Prelude.{◌≡◌, ◌≤◌, ◌+◌, ℕ, length, IfOk, IfSome, IfNone, OnOk, IfErr};
+ghost use Rattle.std.specs.Prelude.{◌≡◌, ◌≤◌, ◌+◌, ℕ, IfOk, IfSome, IfNone, OnOk, IfErr};
 ghost use Rattle.cf_disk.specs.Disk.{size_of, part, Only, Rises};
 ghost use Rattle.cf_codec.specs.declared.formats.Format.{Format};
 ghost use Rattle.cf_journal.specs.Format.{HasSlot, Chosen};

@@ -1,7 +1,6 @@
 //! The slots as they are read, and which of them is the volume.
 
-ghost use Rattle.std.specs.Prelude.{◌≡◌, ◌≤◌, ◌↔◌, IsTrue, ◌+◌, ℕ, length, true, None, Some, IfSome, IfNone, MatchOption, OnOk, IfOk, IfErr};
-ghost use Rattle.cf_disk.specs.Disk.{size_of, part, Keeps, Leaves};
+ghost use Rattle.std.specs.Prelude.{◌≡◌, ◌↔◌, IsTrue, ℕ, length, true, None, Some, IfSome, IfNone};
 ghost use Rattle.cf_journal.specs.SlotTexts.{IsSlotText, IsChoice};
 ghost use Rattle.cf_codec.specs.declared.formats.Format.{Format};
 ghost use Rattle.cf_journal.specs.Format.{is_newer};

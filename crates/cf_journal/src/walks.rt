@@ -1,6 +1,6 @@
 //! The records of a journal, read from the disk one after the other.
 
-ghost use Rattle.std.specs.Prelude.{◌≡◌, ◌≤◌, ◌<◌, ◌+◌, ◌^◌, ◌∷◌, ℕ, length, true, false, IfErr, IfOk, get_or};
+ghost use Rattle.std.specs.Prelude.{◌≡◌, ◌≤◌, ◌<◌, ◌+◌, ◌∷◌, length, true, false, IfErr, IfOk, get_or};
 ghost use Rattle.std.specs.Int.{w32, to_be_bytes};
 ghost use Rattle.cf_disk.specs.Disk.{part, size_of};
 ghost use Rattle.cf_journal.specs.Format.{Overruns, Spells, size_of_records};

@@ -1,9 +1,9 @@
 //! Steps on the disk that end with a sync.
 
-ghost use Rattle.std.specs.Prelude.{◌≡◌, ◌≢◌, ◌⊎◌, ◌+◌, ◌-◌, ◌<◌, ◌≤◌, ◌∷◌, [], ◌++◌, List, ℕ, length, take, get_or, OnOk};
-ghost use Rattle.std.specs.Int.{w32, to_be_bytes};
+ghost use Rattle.std.specs.Prelude.{◌≡◌, ◌+◌, ◌-◌, ◌<◌, ◌≤◌, length, get_or, OnOk};
+ghost use Rattle.std.specs.Int.{to_be_bytes};
 ghost use Rattle.cf_base.specs.declared.limits.TheConstants.{MOST_IMAGE_BYTES};
-ghost use Rattle.cf_disk.specs.Disk.{State, size_of, part, Holds, SameBut, Near, Only, Leaves, Counts, Rises};
+ghost use Rattle.cf_disk.specs.Disk.{size_of, Holds, Near, Only, Leaves, Counts, Rises};
 ghost use Rattle.cf_journal.specs.Content.{NearTwo, clusters};
 ghost use Rattle.cf_journal.specs.Steps.{IsClosing, Closes, Stages, Records};
 

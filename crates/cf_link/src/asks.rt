@@ -1,7 +1,6 @@
 //! An ask of the remote.
 
-ghost use Rattle.std.specs.Prelude.{◌≡◌, None, Ok, Err};
-ghost use Rattle.cf_base.specs.declared.memory.OutOfMemory.{OutOfMemory as NoMemory};
+ghost use Rattle.std.specs.Prelude.{None, Ok, Err};
 ghost use Rattle.cf_link.specs.Parts.{IsAsked, IsUnanswered};
 ghost use Rattle.cf_wire.specs.Spelled.{HasRoom};
 

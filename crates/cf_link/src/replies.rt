@@ -1,6 +1,6 @@
 //! Messages that are kept, as requests and replies.
 
-ghost use Rattle.std.specs.Prelude.{◌≡◌, IfOk, IfSome};
+ghost use Rattle.std.specs.Prelude.{IfOk, IfSome};
 ghost use Rattle.cf_link.specs.Linked.{Delivers, IsLink};
 ghost use Rattle.cf_link.specs.Parts.{IsRead, IsReplyAt, IsRequestAt};
 ghost use Rattle.cf_model.specs.Messages.{message_at};

@@ -1,6 +1,6 @@
 //! Laws of right bytes: what is held of a file is its content, the base's bytes under the local writes.
 
-ghost use Rattle.std.specs.Prelude.{◌≡◌, ◌<◌, ℕ, List, [], ◌∷◌, None, Option, is_some, length, map, true, unwrap_or};
+ghost use Rattle.std.specs.Prelude.{◌≡◌, ◌<◌, ℕ, List, [], None, is_some, map, true, unwrap_or};
 ghost use Rattle.std.specs.List.{list_all};
 ghost use Rattle.cf_base.specs.declared.changes.Change.{Change};
 ghost use Rattle.cf_base.specs.declared.ids.Key.{Key};
@@ -9,7 +9,7 @@ ghost use Rattle.cf_base.specs.declared.ids.Token.{Token};
 ghost use Rattle.cf_base.specs.declared.ids.Usn.{Usn};
 ghost use Rattle.cf_base.specs.declared.ids.Version.{Version};
 ghost use Rattle.cf_base.specs.declared.messages.Request.TheVariants as request;
-ghost use Rattle.cf_model.specs.Contents.{AllTrueTo, RisesFrom, StaysBy, Suits, base_named, laid, up_to};
+ghost use Rattle.cf_model.specs.Contents.{AllTrueTo, RisesFrom, StaysBy, Suits, base_named, up_to};
 ghost use Rattle.cf_model.specs.Effects.{effect, later_than};
 ghost use Rattle.cf_model.specs.Growth.{AreOf, IsCounted, NamesBytes};
 ghost use Rattle.cf_model.specs.Identities.{identity_of};

@@ -1,6 +1,6 @@
 //! Laws of trees and traces: how parts of an event compose, and what makes a trace lawful.
 
-ghost use Rattle.std.specs.Prelude.{◌≡◌, ℕ, Bool, Option, None, Some, List, [], ◌∷◌, ◌++◌, true, Result, Ok, Err};
+ghost use Rattle.std.specs.Prelude.{◌≡◌, ℕ, None, Some, List, [], ◌∷◌, ◌++◌, true, Result, Err};
 ghost use Rattle.cf_base.specs.declared.answers.Answer.{Answer};
 ghost use Rattle.cf_base.specs.declared.answers.Shown.{Shown};
 ghost use Rattle.cf_base.specs.declared.answers.Shown.TheVariants as shown;

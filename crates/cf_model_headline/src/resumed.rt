@@ -1,6 +1,6 @@
 //! What a restart that resumes keeps.
 
-ghost use Rattle.std.specs.Prelude.{◌≡◌, ℕ};
+ghost use Rattle.std.specs.Prelude.{ℕ};
 ghost use Rattle.cf_base.specs.declared.policies.Mode.{Mode};
 ghost use Rattle.cf_model.specs.Lawful.{Runs};
 ghost use Rattle.cf_model.specs.State.{State, start};

@@ -1,6 +1,5 @@
 //! What the tokens of uploads make.
 
-ghost use Rattle.std.specs.Prelude.{ℕ};
 ghost use Rattle.cf_base.specs.declared.policies.Mode.{Mode};
 ghost use Rattle.cf_model.specs.Lawful.{Runs};
 ghost use Rattle.cf_model.specs.State.{State};

@@ -1,6 +1,6 @@
 //! A dehydration is refused exactly where the file is pinned, not in sync or in use.
 
-ghost use Rattle.std.specs.Prelude.{◌≡◌, ◌≢◌, ℕ, List, Option};
+ghost use Rattle.std.specs.Prelude.{◌≢◌, ℕ, List, Option};
 ghost use Rattle.cf_base.specs.declared.answers.Answer.{Answer};
 ghost use Rattle.cf_base.specs.declared.answers.Shown.TheVariants as shown;
 ghost use Rattle.cf_base.specs.declared.codes.Code.TheVariants as code;

@@ -1,6 +1,6 @@
 //! Local writes are not lost.
 
-ghost use Rattle.std.specs.Prelude.{◌≡◌, ℕ, List};
+ghost use Rattle.std.specs.Prelude.{ℕ, List};
 ghost use Rattle.cf_base.specs.declared.answers.Answer.{Answer};
 ghost use Rattle.cf_base.specs.declared.answers.Shown.{Shown};
 ghost use Rattle.cf_base.specs.declared.calls.Call.TheVariants as call;

@@ -1,6 +1,6 @@
 //! The top call.
 
-ghost use Rattle.std.specs.Prelude.{◌≡◌, ◌≢◌, ◌⊎◌, ℕ, List, [], string_bytes, map};
+ghost use Rattle.std.specs.Prelude.{◌≡◌, ◌≢◌, ◌⊎◌, ℕ, List, []};
 ghost use Rattle.cf_disk.specs.Disk.{HasFailed};
 ghost use Rattle.cf_io.specs.Moves.{IsQuiet, IsWhole, Rose};
 ghost use Rattle.cf_pair_run.specs.Runs.{AreFit, OfText};

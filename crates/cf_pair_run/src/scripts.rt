@@ -1,7 +1,7 @@
 //! A script of two devices that is read and done.
 
 ghost use Rattle.std.specs.Prelude.{◌≡◌, ◌≤◌, ◌⊎◌, ◌↔◌, IsTrue, List, length};
-ghost use Rattle.cf_disk.specs.Disk.{HasFailed, size_of};
+ghost use Rattle.cf_disk.specs.Disk.{HasFailed};
 ghost use Rattle.cf_io.specs.Moves.{IsQuiet, Rose};
 ghost use Rattle.cf_pair_events.specs.declared.events.PairEvent.{PairEvent as Event};
 ghost use Rattle.cf_pair_run.specs.Runs.{AreFit, WritesOf};

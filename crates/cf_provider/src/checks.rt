@@ -1,5 +1,5 @@
 //! The refusals of an operation that hang on the asks.
-ghost use Rattle.std.specs.Prelude.{◌≡◌, ℕ, not, List, [], ◌∷◌, length, ◌+◌, ◌%◌, ◌/◌, ◌<◌, ◌^◌, ◌||◌, ◌==◌};
+ghost use Rattle.std.specs.Prelude.{◌≡◌, [], ◌∷◌, ◌+◌, ◌%◌, ◌/◌, ◌<◌, ◌||◌, ◌==◌};
 ghost use Rattle.cf_base.specs.declared.codes.Code.TheVariants as code;
 ghost use Rattle.cf_provider.specs.Checks.{check_of, is_misaligned_by, refusal, span_named, tests_by, whole_blocks};
 ghost use Rattle.cf_model.specs.Blocks.{blocks_of};

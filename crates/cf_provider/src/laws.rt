@@ -1,5 +1,5 @@
 //! What a refused check says of the operation.
-ghost use Rattle.std.specs.Prelude.{◌≡◌, ℕ, Option, Some};
+ghost use Rattle.std.specs.Prelude.{◌≡◌, Some};
 ghost use Rattle.cf_base.specs.declared.answers.Shown.TheVariants as shown;
 ghost use Rattle.cf_base.specs.declared.codes.Code.{Code};
 ghost use Rattle.cf_base.specs.declared.operations.Operation.{Operation};

@@ -1,5 +1,5 @@
 //! What a provider acts on, and what answers callbacks.
-ghost use Rattle.std.specs.Prelude.{◌≡◌, List, [], ◌∷◌, ◌++◌, is_ok, option_map, true};
+ghost use Rattle.std.specs.Prelude.{◌≡◌, List, [], ◌++◌, is_ok, option_map, true};
 ghost use Rattle.cf_provider.specs.Acting.{Executes, Notes, is_note};
 ghost use Rattle.cf_provider.specs.Sights.{Sight};
 ghost use Rattle.cf_provider.specs.declared.outcomes.Callback.{Callback};

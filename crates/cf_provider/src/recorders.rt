@@ -1,6 +1,5 @@
 //! A port on which providers are tried.
-ghost use Rattle.std.specs.Prelude.{◌≡◌, List, [], ◌++◌, map, IfOk};
-ghost use Rattle.cf_provider.specs.Acting.{Executes, Notes};
+ghost use Rattle.std.specs.Prelude.{◌≡◌, [], IfOk};
 ghost use Rattle.cf_model.specs.Requests.{none_waiting};
 
 use crate::outcomes::Outcome;

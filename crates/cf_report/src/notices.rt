@@ -1,6 +1,6 @@
 //! Notices.
 
-ghost use Rattle.std.specs.Prelude.{◌≡◌, List, [], ◌∷◌, ◌++◌, OnOk, codes};
+ghost use Rattle.std.specs.Prelude.{◌≡◌, List, ◌∷◌, ◌++◌, OnOk, codes};
 ghost use Rattle.std.specs.List.{flat_map};
 ghost use Rattle.cf_report.specs.Texts.{ask_words, frame_words, notice_line, notice_words, operation_words, request_word, sent_word};
 ghost use Rattle.cf_report.specs.Changes.{change_words};

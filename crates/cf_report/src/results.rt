@@ -1,6 +1,6 @@
 //! Results and ends.
 
-ghost use Rattle.std.specs.Prelude.{◌≡◌, List, [], ◌∷◌, ◌++◌, OnOk, codes, map};
+ghost use Rattle.std.specs.Prelude.{◌≡◌, [], ◌∷◌, ◌++◌, OnOk, codes, map};
 ghost use Rattle.cf_report.specs.Texts.{code_words, end_words, listed, result_line, run, shown_words, sync_word};
 ghost use Rattle.cf_report.specs.Changes.{kind_word, pin_word};
 ghost use Rattle.cf_report.specs.Words.{bytes_text, decimal, spaced, usn_text};

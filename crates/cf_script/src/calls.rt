@@ -1,6 +1,6 @@
 //! The lines of an application.
 
-ghost use Rattle.std.specs.Prelude.{◌≡◌, [], ◌∷◌, map, IfOk};
+ghost use Rattle.std.specs.Prelude.{[], ◌∷◌, map, IfOk};
 ghost use Rattle.cf_script_words.specs.Words.{Reads};
 ghost use Rattle.cf_script.specs.Forms.{IsClose, IsCancel, IsTick, IsReadLine, IsGet, IsWrite, IsSize, IsRename, IsPinLine, IsDehydrate, IsRanges, IsPolicyLine, IsKeep};
 

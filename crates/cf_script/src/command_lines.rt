@@ -1,6 +1,6 @@
 //! The lines of the commands that have words after them.
 
-ghost use Rattle.std.specs.Prelude.{◌≡◌, map, IfOk};
+ghost use Rattle.std.specs.Prelude.{map, IfOk};
 ghost use Rattle.cf_script_words.specs.Words.{Reads};
 ghost use Rattle.cf_script_words.specs.Shapes.{OfOne, OfTwo, OfThree, OfTwoOrMore};
 ghost use Rattle.cf_script.specs.Forms.{IsPathLine, IsNumberLine, IsWordLine, IsTwoWordLine, IsThreeWordLine, IsLongLine, IsOtherLine};

@@ -1,6 +1,6 @@
 //! One line of a script.
 
-ghost use Rattle.std.specs.Prelude.{◌≡◌, map, IfOk, IsTrue};
+ghost use Rattle.std.specs.Prelude.{◌≡◌, map, IfOk};
 ghost use Rattle.cf_script_words.specs.Words.{Reads};
 ghost use Rattle.cf_script.specs.Modes.{is_for_engine, is_for_provider, is_foreign};
 ghost use Rattle.cf_script.specs.Forms.{Follows, AreWords};

@@ -1,6 +1,6 @@
 //! The operations of a scripted provider.
 
-ghost use Rattle.std.specs.Prelude.{◌≡◌, map, IfOk};
+ghost use Rattle.std.specs.Prelude.{map, IfOk};
 ghost use Rattle.cf_base.specs.declared.ids.Key.{Key};
 ghost use Rattle.cf_script_words.specs.Words.{Reads};
 ghost use Rattle.cf_script.specs.Forms.{IsDone, IsDo, IsPlanKey, IsPlanned, IsPlan};

@@ -1,6 +1,6 @@
 //! The lines of another device and of the link to the remote.
 
-ghost use Rattle.std.specs.Prelude.{◌≡◌, map, IfOk};
+ghost use Rattle.std.specs.Prelude.{map, IfOk};
 ghost use Rattle.cf_script_words.specs.Words.{Reads};
 ghost use Rattle.cf_script.specs.Forms.{IsPeerWord, IsPeerPair, IsPeerEvent, IsPeer, IsLink};
 

@@ -1,6 +1,6 @@
 //! The lines of a scripted provider that name a path.
 
-ghost use Rattle.std.specs.Prelude.{◌≡◌, [], ◌∷◌, map, IfOk};
+ghost use Rattle.std.specs.Prelude.{[], ◌∷◌, map, IfOk};
 ghost use Rattle.cf_script_words.specs.Words.{Reads, IsPath, IsPlain};
 ghost use Rattle.cf_script.specs.Forms.{IsPlace, IsPlaceDir, IsConvert, IsUpdate, IsMark};
 

@@ -1,6 +1,6 @@
 //! The lines of an application, as they are written.
 
-ghost use Rattle.std.specs.Prelude.{◌≡◌, ℕ, List, [], ◌∷◌, ◌++◌, codes, Option};
+ghost use Rattle.std.specs.Prelude.{◌≡◌, List, [], ◌∷◌, ◌++◌, codes, Option};
 ghost use Rattle.std.specs.Fmt.{decimal};
 ghost use Rattle.cf_script_words.specs.Words.{escaped, plain_text};
 ghost use Rattle.cf_script_words.specs.Names.{pin_name, reach_words, hydration_name, population_name, modifier_words};

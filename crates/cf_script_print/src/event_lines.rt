@@ -1,6 +1,6 @@
 //! The lines of the device, of another device, of the engine and of a scripted provider, as they are written.
 
-ghost use Rattle.std.specs.Prelude.{◌≡◌, ℕ, List, [], ◌∷◌, ◌++◌, codes, Option};
+ghost use Rattle.std.specs.Prelude.{◌≡◌, [], ◌∷◌, ◌++◌, codes, Option};
 ghost use Rattle.std.specs.Fmt.{decimal};
 ghost use Rattle.cf_script_words.specs.Words.{escaped, plain_text};
 ghost use Rattle.cf_script_print.specs.Printed.{choice_words, device_words, peer_words, engine_words, provider_words, event_words, size_words};

@@ -1,7 +1,6 @@
 //! The fixed words.
 
-ghost use Rattle.std.specs.Prelude.{◌≡◌, [], ◌∷◌, ◌++◌, map, codes};
-ghost use Rattle.cf_base.specs.declared.policies.Policy.{Policy};
+ghost use Rattle.std.specs.Prelude.{◌≡◌, [], ◌++◌, map, codes};
 ghost use Rattle.cf_script_words.specs.Words.{Reads};
 ghost use Rattle.cf_script_words.specs.Names.{peer_name, operation_name, pin_name, reach_words, class_name, hydration_name, population_name, yes_name, good_name, link_name, kept_name, entry_kind, begins, flag_words, modifier_words};
 

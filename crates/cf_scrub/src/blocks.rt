@@ -1,6 +1,6 @@
 //! Whether a file has a cluster just for each block that holds a byte.
 
-ghost use Rattle.std.specs.Prelude.{◌≡◌, ◌+◌, ◌-◌, ◌≤◌, ◌<◌, ◌^◌, ℕ, map};
+ghost use Rattle.std.specs.Prelude.{◌≡◌, ◌+◌, ◌-◌, ◌≤◌, ◌<◌, ◌^◌, map};
 ghost use Rattle.std.specs.List.{list_all};
 ghost use Rattle.cf_model.specs.Words.{counting};
 ghost use Rattle.cf_ranges.specs.Positions.{IsRuns, touches};

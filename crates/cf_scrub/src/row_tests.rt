@@ -1,6 +1,6 @@
 //! Whether a row is sound, and its runs.
 
-ghost use Rattle.std.specs.Prelude.{◌≡◌, IfOk, map, not};
+ghost use Rattle.std.specs.Prelude.{◌≡◌, IfOk, map};
 ghost use Rattle.cf_model.specs.Texts.{is_name};
 ghost use Rattle.cf_scrub.specs.RowTests.{has_child, has_no_run, has_sound_flags, has_sound_kind, has_sound_name, has_sound_numbers, has_sound_runs, has_sound_writes, is_bare, is_listed, is_small, is_sound_row};
 ghost use Rattle.cf_table.specs.Spelling.{row_value};

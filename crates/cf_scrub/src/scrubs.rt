@@ -1,6 +1,6 @@
 //! Judging the bytes of a device.
 
-ghost use Rattle.std.specs.Prelude.{◌≡◌, ◌↔◌, ◌∷◌, [], IfOk, IsTrue, length};
+ghost use Rattle.std.specs.Prelude.{◌≡◌, ◌↔◌, ◌∷◌, [], IfOk, IsTrue};
 ghost use Rattle.cf_disk.specs.Disk.{size_of};
 ghost use Rattle.cf_disk.specs.MemState.{mem_state};
 ghost use Rattle.cf_journal.specs.Settled.{IsFitSize};

@@ -1,6 +1,6 @@
 //! The state that an image and payloads spell.
 
-ghost use Rattle.std.specs.Prelude.{◌≡◌, IfOk};
+ghost use Rattle.std.specs.Prelude.{IfOk};
 ghost use Rattle.cf_volume_image.specs.Contents.{image_of};
 ghost use Rattle.cf_volume_image.specs.States.{TellsIn};
 

@@ -1,6 +1,6 @@
 //! The head of a row: its numbers and flags, which stand in front.
 
-ghost use Rattle.std.specs.Prelude.{◌≡◌, ◌<◌, ◌≤◌, ◌+◌, ◌/◌, ◌%◌, ◌==◌, ◌^◌, ◌∷◌, [], IfOk, IfErr, MatchOption, Option, true, false, unwrap_or, is_some};
+ghost use Rattle.std.specs.Prelude.{◌≡◌, ◌<◌, ◌≤◌, ◌/◌, ◌%◌, ◌==◌, ◌^◌, ◌∷◌, [], IfOk, IfErr, MatchOption, Option, true, false, unwrap_or, is_some};
 ghost use Rattle.cf_codec.specs.Left.{Takes};
 ghost use Rattle.cf_model.specs.Rows.{pin_byte};
 ghost use Rattle.cf_model.specs.Words.{in_bytes};

@@ -1,7 +1,7 @@
 //! Look-ups in the rows of a volume.
 
 ghost use Rattle.std.specs.List.{list_any};
-ghost use Rattle.std.specs.Prelude.{◌≡◌, ◌≤◌, ◌<◌, ◌&&◌, ◌||◌, ◌==◌, ℕ, Option, not, find, filter, IfOk, length, get_or, true, false};
+ghost use Rattle.std.specs.Prelude.{◌≡◌, ◌≤◌, ◌<◌, ◌&&◌, ℕ, Option, not, find, filter, IfOk, length, get_or, true, false};
 ghost use Rattle.cf_model.specs.Numbers.{above};
 ghost use Rattle.cf_table.specs.Tables.{child_rows, comes_after, id_of, ids_of, is_child_row, RisesFrom, rows_by_name};
 ghost use Rattle.cf_table.specs.declared.rows.Row.{Row};

@@ -1,6 +1,6 @@
 //! Rows read from bytes.
 
-ghost use Rattle.std.specs.Prelude.{◌≡◌, ◌<◌, ◌^◌, ◌++◌, [], ℕ, List, Option, None, Some, All, IfOk, IfErr, length, map};
+ghost use Rattle.std.specs.Prelude.{◌≡◌, ◌<◌, ◌++◌, ℕ, List, Option, None, Some, All, IfOk, IfErr, length, map};
 ghost use Rattle.cf_codec.specs.Left.{Takes};
 ghost use Rattle.cf_model.specs.Rows as model;
 ghost use Rattle.cf_table.specs.Faults.{AreTable, AtIdentity, AtName, AtRow, AtRows, AtTable, AtWhole, IsTold};

@@ -1,13 +1,10 @@
 //! The sets of a row, which stand behind its texts.
 
-ghost use Rattle.std.specs.Prelude.{◌≡◌, ◌≤◌, ◌<◌, ◌+◌, ◌^◌, [], ℕ, List, IfOk, IfErr, length, map};
-ghost use Rattle.std.specs.List.{flat_map};
+ghost use Rattle.std.specs.Prelude.{◌≡◌, ◌≤◌, ◌<◌, ◌+◌, ◌^◌, IfOk, IfErr, length, map};
 ghost use Rattle.cf_base.specs.declared.spans.Span.{Span};
 ghost use Rattle.cf_codec.specs.Left.{Takes};
 ghost use Rattle.cf_model.specs.Rows.{spell_extent, spell_extents, spell_run, spell_runs};
 ghost use Rattle.cf_model.specs.Words.{in_bytes};
-ghost use Rattle.cf_ranges.specs.Pairs.{IsRising};
-ghost use Rattle.cf_ranges.specs.Positions.{IsRuns};
 ghost use Rattle.cf_table.specs.Faults.{AtExtent, AtExtents, AtMap, AtNumber, AtRun, AtRuns, AtSet, AtSets, IsLen};
 ghost use Rattle.cf_table.specs.Reading.{AreExtents, AreExtentsFrom, AreRunsFrom, AreSets, IsExtent, IsRun, IsSet, sets_bytes};
 ghost use Rattle.cf_table.specs.Spelling.{extent_of, spell_pairs, spell_spans};

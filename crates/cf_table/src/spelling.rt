@@ -3,7 +3,6 @@
 ghost use Rattle.std.specs.Prelude.{◌≡◌, ◌≤◌, ◌<◌, ◌+◌, ◌^◌, ◌++◌, ◌∷◌, IfOk, OnOk, is_some, unwrap_or, length, map, All};
 ghost use Rattle.cf_base.specs.declared.ids.Usn.{Usn};
 ghost use Rattle.cf_base.specs.declared.spans.Span.{Span};
-ghost use Rattle.cf_model.specs.Books.{usn_bytes};
 ghost use Rattle.cf_model.specs.Rows.{flag_of, flags_of, pin_byte, spell_extent, spell_extents, spell_head, spell_row, spell_run, spell_runs, spell_sets, spell_texts};
 ghost use Rattle.cf_model.specs.Formats.{spell_rows};
 ghost use Rattle.cf_model.specs.Words.{in_bytes};

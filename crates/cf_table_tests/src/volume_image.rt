@@ -1,6 +1,6 @@
 //! What no clause says: that the calls succeed where there is memory, and some bytes from outside.
 
-ghost use Rattle.std.specs.Prelude.{◌≡◌, ◌<◌, ◌^◌, [], IfOk, length};
+ghost use Rattle.std.specs.Prelude.{◌<◌, ◌^◌, [], length};
 ghost use Rattle.std.specs.List.{All};
 ghost use Rattle.cf_table.specs.Spelling.{HasRoom};
 

@@ -1,6 +1,6 @@
 //! Whether a change fits the row of its item.
 
-ghost use Rattle.std.specs.Prelude.{◌≡◌, ◌≤◌, ◌+◌, ◌^◌, ◌↔◌, IsTrue, length};
+ghost use Rattle.std.specs.Prelude.{◌≡◌, ◌≤◌, ◌+◌, ◌↔◌, IsTrue};
 ghost use Rattle.cf_table.specs.Applied.{FitsRow, IsSpellable};
 ghost use Rattle.cf_table.specs.Means.{IsLater, is_rebase_point};
 

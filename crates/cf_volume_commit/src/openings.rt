@@ -1,6 +1,6 @@
 //! Openings.
 
-ghost use Rattle.std.specs.Prelude.{◌≡◌, ◌≤◌, ◌<◌, ◌+◌, [], ◌++◌, ◌⊎◌, ℕ, List, Some, None, map, All, false, true, Err, IfErr, IfOk, IsOk, OnOk};
+ghost use Rattle.std.specs.Prelude.{◌≡◌, ◌≤◌, ◌<◌, ◌+◌, [], ◌++◌, ◌⊎◌, ℕ, List, Some, None, map, false, true, Err, IfErr, IfOk, IsOk, OnOk};
 ghost use Rattle.cf_base.specs.declared.changes.Change.{Change};
 ghost use Rattle.cf_base.specs.declared.codes.Code.TheVariants as code;
 ghost use Rattle.cf_base.specs.declared.codes.CallError.TheVariants as fail;
@@ -13,7 +13,7 @@ ghost use Rattle.cf_volume_image.specs.ClusterLists.{clusters_in};
 ghost use Rattle.cf_volume_image.specs.Contents.{image_of, payload_of};
 ghost use Rattle.cf_volume_image.specs.Spelled.{AreRecordsFrom};
 ghost use Rattle.cf_journal.specs.Content.{Content, Stands, clusters};
-ghost use Rattle.cf_journal.specs.Settled.{IsFitSize, Settled};
+ghost use Rattle.cf_journal.specs.Settled.{IsFitSize};
 ghost use Rattle.cf_journal.specs.Steps.{ReadsOnly};
 ghost use Rattle.cf_model.specs.Books.{Book};
 ghost use Rattle.cf_model.specs.Formats.{Image, spell_image, spell_payload};
@@ -26,7 +26,7 @@ ghost use Rattle.cf_volume_points.specs.Sound.{Sound};
 ghost use Rattle.cf_volume_points.specs.Standing.{Standing, clusters_for, opened};
 ghost use Rattle.cf_volume_points.specs.declared.stops.Stop.TheVariants as stop;
 ghost use Rattle.cf_table.specs.Changing.{IsNext};
-ghost use Rattle.cf_table.specs.Spelling.{HasRoom, row_value};
+ghost use Rattle.cf_table.specs.Spelling.{row_value};
 ghost use Rattle.cf_table.specs.Tables.{AreTableRows, RisesFrom};
 
 use crate::damages::FindError;

@@ -1,6 +1,6 @@
 //! The clusters of a file: one just for each block that holds a byte.
 
-ghost use Rattle.std.specs.Prelude.{◌≡◌, ◌≤◌, ◌<◌, ℕ, List, is_some, true};
+ghost use Rattle.std.specs.Prelude.{true};
 ghost use Rattle.std.specs.Bool.{Decides};
 ghost use Rattle.cf_base.specs.declared.limits.TheConstants.{MOST_FILE_BYTES};
 ghost use Rattle.cf_volume_image.specs.Sets.{HasBlocks, HasBlocksOf, HaveBytes};

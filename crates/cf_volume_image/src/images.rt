@@ -1,8 +1,8 @@
 //! Images: all that a volume says.
 
-ghost use Rattle.std.specs.Prelude.{◌≡◌, ◌<◌, ◌^◌, ◌++◌, ◌∷◌, [], List, None, IfOk, IfErr, OnOk, All, length, map};
+ghost use Rattle.std.specs.Prelude.{◌≡◌, ◌<◌, ◌∷◌, [], IfOk, IfErr, OnOk, All};
 ghost use Rattle.cf_codec.specs.Left.{Takes};
-ghost use Rattle.cf_model.specs.Formats.{Image, spell_header, spell_image};
+ghost use Rattle.cf_model.specs.Formats.{Image, spell_image};
 ghost use Rattle.cf_table.specs.Faults.{IsTold};
 ghost use Rattle.cf_table.specs.Spelling.{HasRoom};
 ghost use Rattle.cf_volume_image.specs.Contents.{image_of};

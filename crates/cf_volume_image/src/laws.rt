@@ -1,6 +1,6 @@
 //! Laws of images and payloads, for the crates above.
 
-ghost use Rattle.std.specs.Prelude.{◌≡◌, ℕ, List, None, map};
+ghost use Rattle.std.specs.Prelude.{◌≡◌, ℕ, List, None};
 ghost use Rattle.cf_base.specs.declared.ids.ItemId.{ItemId};
 ghost use Rattle.cf_codec.specs.declared.formats.Format.{Format};
 ghost use Rattle.cf_model.specs.Formats.{Image, Payload, after_payload};

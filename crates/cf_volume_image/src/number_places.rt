@@ -1,8 +1,8 @@
 //! The numbers by which records of one kind can be asked for.
 
-ghost use Rattle.std.specs.Prelude.{◌≡◌, ◌≢◌, ◌<◌, ◌≤◌, ◌^◌, MatchOption, Some, length, take, drop};
+ghost use Rattle.std.specs.Prelude.{◌≡◌, ◌≢◌, ◌<◌, ◌^◌, MatchOption, Some, length, take, drop};
 ghost use Rattle.cf_model.specs.Words.{in_bytes};
-ghost use Rattle.cf_volume_image.specs.Numbers.{AreNumbersOf, is_numbered, offset_of};
+ghost use Rattle.cf_volume_image.specs.Numbers.{AreNumbersOf, is_numbered};
 
 use cf_base::AuxRecord;
 use cf_codec::Reader;

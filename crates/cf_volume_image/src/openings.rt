@@ -1,6 +1,6 @@
 //! The contents that an image and payloads tell.
 
-ghost use Rattle.std.specs.Prelude.{◌≡◌, List, IfOk, IfErr, All};
+ghost use Rattle.std.specs.Prelude.{◌≡◌, IfOk, IfErr, All};
 ghost use Rattle.cf_model.specs.Formats.{Image};
 ghost use Rattle.cf_table.specs.Spelling.{HasRoom};
 ghost use Rattle.cf_volume_image.specs.Causes.{IsCause, IsKnown, IsUnspelled, image_error, payload_error};

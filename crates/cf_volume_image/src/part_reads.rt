@@ -1,12 +1,11 @@
 //! The parts of images and payloads, as they are read.
 
-ghost use Rattle.std.specs.Prelude.{◌≡◌, ◌<◌, ◌^◌, ◌++◌, ◌∷◌, [], ℕ, List, Option, None, Some, IfOk, IfErr, true, false, length, option_copied};
+ghost use Rattle.std.specs.Prelude.{◌≡◌, ◌<◌, Option, None, Some, IfOk, IfErr, true, false, length, option_copied};
 ghost use Rattle.std.specs.List.{flat_map};
 ghost use Rattle.cf_codec.specs.Left.{Takes};
 ghost use Rattle.cf_model.specs.Formats.{spell_id, spell_key, spell_record, spell_records};
-ghost use Rattle.cf_model.specs.Words.{in_bytes};
 ghost use Rattle.cf_table.specs.Faults.{AtIdentity};
-ghost use Rattle.cf_table.specs.Reading.{IsAbove, IsIdentity, identity_bytes};
+ghost use Rattle.cf_table.specs.Reading.{IsIdentity, identity_bytes};
 ghost use Rattle.cf_volume_image.specs.Contents.{read_header_of};
 ghost use Rattle.cf_volume_image.specs.Faults.{AtHeader, AtId, AtIds, AtIdsFrom, AtKey, AtKeys, AtKeysFrom, AtRecord, AtRecords, AtRecordsFrom};
 ghost use Rattle.cf_volume_image.specs.RecordLists.{last_key_of, last_of, records_bytes};

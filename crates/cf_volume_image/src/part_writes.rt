@@ -1,11 +1,11 @@
 //! The parts of images and payloads, as they are written.
 
-ghost use Rattle.std.specs.Prelude.{◌≡◌, ◌<◌, ◌^◌, ◌++◌, ◌∷◌, [], List, None, OnOk, All, length};
+ghost use Rattle.std.specs.Prelude.{◌≡◌, ◌<◌, ◌^◌, ◌++◌, None, OnOk, All, length};
 ghost use Rattle.cf_model.specs.Formats.{spell_header, spell_key, spell_record, spell_records};
 ghost use Rattle.cf_model.specs.Words.{in_bytes};
 ghost use Rattle.cf_volume_image.specs.Contents.{header_of};
 ghost use Rattle.cf_volume_image.specs.RecordLists.{IsShort, records_bytes};
-ghost use Rattle.cf_volume_image.specs.Spelled.{AreRecordsFrom, ids_bytes, keys_bytes};
+ghost use Rattle.cf_volume_image.specs.Spelled.{AreRecordsFrom};
 
 use crate::contents::Contents;
 use cf_base::{AuxRecord, Blob, ItemId, OutOfMemory};

@@ -1,6 +1,6 @@
 //! Lists of auxiliary records in order of key.
 
-ghost use Rattle.std.specs.Prelude.{◌≡◌, ◌≤◌, ◌<◌, ◌+◌, ◌^◌, [], ℕ, List, None, OnOk, OnErr, IfOk, IfErr, length, not, option_copied, find, remove};
+ghost use Rattle.std.specs.Prelude.{◌≡◌, ◌<◌, ◌+◌, ◌^◌, None, OnOk, OnErr, IfOk, IfErr, length, not, option_copied, find, remove};
 ghost use Rattle.cf_model.specs.Formats.{with_record, without_record};
 ghost use Rattle.cf_model.specs.Images.{aux_len};
 ghost use Rattle.cf_model.specs.Words.{comes_before, same};

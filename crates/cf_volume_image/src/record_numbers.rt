@@ -1,6 +1,6 @@
 //! The numbers of a list of records.
 
-ghost use Rattle.std.specs.Prelude.{◌≡◌, ℕ, [], OnErr, OnOk, nat_lt};
+ghost use Rattle.std.specs.Prelude.{◌≡◌, [], OnErr, OnOk, nat_lt};
 ghost use Rattle.cf_volume_image.specs.Numbers.{AddsAll, AreAllSame, AreCounted, TakesAll, count_of, counts_at};
 
 use crate::number_counts::NumberCounts;

@@ -1,6 +1,6 @@
 //! The auxiliary records of a volume.
 
-ghost use Rattle.std.specs.Prelude.{◌≡◌, ◌<◌, ◌^◌, [], List, None, MatchOption, OnOk, OnErr, IfOk, find, length, min, option_copied, true};
+ghost use Rattle.std.specs.Prelude.{◌≡◌, ◌<◌, ◌^◌, [], List, None, OnOk, OnErr, IfOk, find, min, option_copied, true};
 ghost use Rattle.cf_model.specs.Formats.{with_record, without_record};
 ghost use Rattle.std.specs.List.{list_any};
 ghost use Rattle.cf_volume_image.specs.Contents.{record_at};

@@ -1,6 +1,6 @@
 //! Tests of sets of places, which stand as their maximal runs.
 
-ghost use Rattle.std.specs.Prelude.{◌≡◌, ◌≤◌, ◌<◌, ◌+◌, ◌^◌, ℕ, MatchOption, true, false};
+ghost use Rattle.std.specs.Prelude.{◌≡◌, ◌<◌, ◌+◌, MatchOption, true, false};
 ghost use Rattle.std.specs.Bool.{Decides};
 ghost use Rattle.cf_volume_image.specs.Sets.{HasAll, HasSpan, IsRunAt};
 ghost use Rattle.cf_ranges.specs.Positions.{IsBelow, IsRuns, contains};

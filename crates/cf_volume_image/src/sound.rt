@@ -1,6 +1,6 @@
 //! Whether contents are those of a volume.
 
-ghost use Rattle.std.specs.Prelude.{◌≡◌, ◌≤◌, ℕ, List, IfOk, length, map};
+ghost use Rattle.std.specs.Prelude.{◌≡◌, ◌≤◌, IfOk, length, map};
 ghost use Rattle.std.specs.Bool.{Decides};
 ghost use Rattle.cf_base.specs.declared.limits.TheConstants.{MOST_ITEMS};
 ghost use Rattle.cf_model.specs.Standing.{AreSound};

@@ -1,13 +1,12 @@
 //! Whether a row is sound.
 
-ghost use Rattle.std.specs.Prelude.{◌≡◌, ◌≢◌, ◌≤◌, ◌<◌, [], IfOk, List, length, true, false, None, unwrap_or};
+ghost use Rattle.std.specs.Prelude.{◌≡◌, ◌<◌, IfOk, true, false, unwrap_or};
 ghost use Rattle.std.specs.Bool.{Decides};
 ghost use Rattle.cf_model.specs.Numbers.{above};
 ghost use Rattle.cf_model.specs.Rows.{IsSoundRow};
 ghost use Rattle.cf_model.specs.Texts.{is_name};
 ghost use Rattle.cf_table.specs.Spelling.{row_value};
 ghost use Rattle.cf_volume_image.specs.RowTests.{AreSmall, HasSoundName, HasSoundNumbers, HasSoundSets, IsBareRow, IsPlainRow, IsSoundButName, IsSoundFile};
-ghost use Rattle.cf_ranges.specs.Positions.{IsBelow};
 
 use crate::sets::{has_all, has_span, is_below};
 use cf_base::{CallError, Code, ItemId, Name, OutOfMemory, Usn};

@@ -1,6 +1,6 @@
 //! Whether the rows form a tree.
 
-ghost use Rattle.std.specs.Prelude.{◌≡◌, ◌&&◌, ℕ, List, is_some, map, not, true, false};
+ghost use Rattle.std.specs.Prelude.{◌≡◌, ◌&&◌, is_some, map, not, true, false};
 ghost use Rattle.std.specs.List.{list_all};
 ghost use Rattle.cf_model.specs.Numbers.{no_item, root_id};
 ghost use Rattle.cf_model.specs.Words.{says};

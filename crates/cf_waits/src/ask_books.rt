@@ -9,7 +9,7 @@ ghost use Rattle.cf_model.specs.Asks.{new_asks};
 ghost use Rattle.cf_model.specs.Missing.{View, Wait};
 ghost use Rattle.cf_model.specs.Numbers.{same_key};
 ghost use Rattle.cf_model.specs.Requests.{aged, is_data, live_of};
-ghost use Rattle.cf_model.specs.Words.{counting, says};
+ghost use Rattle.cf_model.specs.Words.{counting};
 ghost use Rattle.cf_waits.specs.Books.{aged_at, found_of, is_far, is_list_ask, is_plain_ask};
 ghost use Rattle.cf_waits.specs.Rising.{IsRising, ask_key};
 ghost use Rattle.cf_waits.specs.Steps.{is_gone};

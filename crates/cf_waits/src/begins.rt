@@ -1,5 +1,5 @@
 //! Waits that begin.
-ghost use Rattle.std.specs.Prelude.{◌≡◌, ℕ, cond, false, None, Some, IfOk, OnErr, OnOk, ◌+◌, ◌++◌, ◌≤◌};
+ghost use Rattle.std.specs.Prelude.{◌≡◌, cond, false, None, Some, IfOk, OnErr, OnOk, ◌+◌, ◌++◌, ◌≤◌};
 ghost use Rattle.cf_base.specs.declared.limits.TheConstants.{MOST_NUMBER};
 ghost use Rattle.cf_base.specs.declared.waits.WaitKind.TheVariants as wait_kind;
 ghost use Rattle.cf_model.specs.Missing.{no_span};

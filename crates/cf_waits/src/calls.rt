@@ -1,5 +1,5 @@
 //! The calls that change what waits and is asked. Each is one step of the ask rule.
-ghost use Rattle.std.specs.Prelude.{◌≡◌, ℕ, cond, ◌+◌, ◌≤◌, ◌^◌};
+ghost use Rattle.std.specs.Prelude.{◌≡◌, cond, ◌≤◌, ◌^◌};
 ghost use Rattle.cf_ask_rule.specs.Deeds.{deed_of};
 ghost use Rattle.cf_ask_rule.specs.Sights.{shown};
 ghost use Rattle.cf_model.specs.Asks.{step_of};

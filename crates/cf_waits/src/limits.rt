@@ -1,5 +1,5 @@
 //! Limits on what waits and is asked after a step.
-ghost use Rattle.std.specs.Prelude.{◌≡◌, ℕ, not, [], ◌∷◌, count_by, nat_lt, ◌+◌, ◌&&◌, ◌≤◌};
+ghost use Rattle.std.specs.Prelude.{◌≡◌, not, [], ◌∷◌, count_by, nat_lt, ◌+◌, ◌&&◌, ◌≤◌};
 ghost use Rattle.cf_base.specs.declared.codes.Code.TheVariants as code;
 ghost use Rattle.cf_base.specs.declared.limits.TheConstants.{MOST_NUMBER};
 ghost use Rattle.cf_model.specs.Requests.{no_numbers, too_many_asks, too_many_waits, with_waits};

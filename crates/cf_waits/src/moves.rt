@@ -1,5 +1,5 @@
 //! What a step tells.
-ghost use Rattle.std.specs.Prelude.{◌≡◌, IfOk, OnOk, map, length, ◌+◌, ◌≤◌};
+ghost use Rattle.std.specs.Prelude.{◌≡◌, IfOk, map, length, ◌+◌, ◌≤◌};
 ghost use Rattle.cf_base.specs.declared.limits.TheConstants.{MOST_NUMBER};
 ghost use Rattle.cf_model.specs.Asks.{with_keys};
 

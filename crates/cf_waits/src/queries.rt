@@ -1,5 +1,5 @@
 //! What is asked of the waits and asks.
-ghost use Rattle.std.specs.Prelude.{◌≡◌, ℕ, map, None, ◌-◌, ◌≤◌, ◌^◌, IfOk};
+ghost use Rattle.std.specs.Prelude.{◌≡◌, map, None, ◌-◌, ◌≤◌, ◌^◌, IfOk};
 ghost use Rattle.std.specs.Option.{option_map};
 ghost use Rattle.cf_ask_rule.specs.Sights.{shown};
 ghost use Rattle.cf_model.specs.Missing.{is_met};

@@ -7,7 +7,7 @@ ghost use Rattle.cf_ask_rule.specs.Sights.{shown};
 ghost use Rattle.cf_base.specs.declared.limits.TheConstants.{MOST_NUMBER};
 ghost use Rattle.cf_model.specs.Asks.{downed, step_of};
 ghost use Rattle.cf_base.specs.declared.waits.Cause.TheVariants as cause;
-ghost use Rattle.cf_model.specs.Requests.{no_numbers, none_waiting, too_many_asks, with_waits};
+ghost use Rattle.cf_model.specs.Requests.{no_numbers, none_waiting, with_waits};
 ghost use Rattle.cf_waits.specs.Rising.{AreNext};
 ghost use Rattle.cf_waits.specs.Sound.{IsSound};
 ghost use Rattle.cf_waits.specs.Steps.{IsPlanned, carried, limit_of, moved_of, turned};

@@ -3,7 +3,6 @@ ghost use Rattle.std.specs.Prelude.{◌≡◌, ◌+◌, ◌<◌, ◌≤◌, ◌+
 ghost use Rattle.std.specs.List.{AllByRecursion, list_any};
 ghost use Rattle.cf_ask_rule.specs.Narrowing.{AreNear, is_awaited};
 ghost use Rattle.cf_ask_rule.specs.Near.{is_on};
-ghost use Rattle.cf_model.specs.Missing.{Wait};
 ghost use Rattle.cf_model.specs.Numbers.{same_key};
 ghost use Rattle.cf_model.specs.Requests.{is_background, is_dehydrate_wait, is_hydrate_wait, is_list_wait};
 ghost use Rattle.cf_model.specs.Words.{is_empty, says};

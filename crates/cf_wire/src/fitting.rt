@@ -1,6 +1,6 @@
 //! Whether a reply fits its request.
 
-ghost use Rattle.std.specs.Prelude.{◌≡◌, ◌==◌, ◌&&◌, ◌<◌, ◌^◌, Bool, cond, IfOk, length, List, ℕ, map, nat_eq, not};
+ghost use Rattle.std.specs.Prelude.{◌≡◌, ◌==◌, ◌&&◌, ◌<◌, IfOk, List, ℕ, map, nat_eq};
 ghost use Rattle.std.specs.List.{list_all};
 ghost use Rattle.cf_base.specs.declared.ids.Rid.{Rid};
 ghost use Rattle.cf_base.specs.declared.ids.Version.{Version};

@@ -1,6 +1,6 @@
 //! What is known here of the remote's items.
 
-ghost use Rattle.std.specs.Prelude.{◌≡◌, Bool, List};
+ghost use Rattle.std.specs.Prelude.{◌≡◌, List};
 ghost use Rattle.cf_base.specs.declared.ids.Rid.{Rid};
 ghost use Rattle.cf_base.specs.declared.messages.Entry.{Entry};
 ghost use Rattle.cf_model.specs.Fits.{Known, is_known, is_of_kind};

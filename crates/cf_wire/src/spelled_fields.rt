@@ -1,6 +1,6 @@
 //! Fields of frames, as they are spelled.
 
-ghost use Rattle.std.specs.Prelude.{◌≡◌, ◌≤◌, ◌<◌, ◌^◌, ◌++◌, ◌∷◌, [], length, OnOk};
+ghost use Rattle.std.specs.Prelude.{◌≡◌, ◌≤◌, ◌<◌, ◌^◌, ◌++◌, length, OnOk};
 ghost use Rattle.cf_model.specs.Books.{key_bytes};
 ghost use Rattle.cf_model.specs.Frames.{blob_bytes, name_bytes};
 ghost use Rattle.cf_model.specs.Words.{in_bytes};

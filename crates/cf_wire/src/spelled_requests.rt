@@ -1,7 +1,6 @@
 //! Requests, as they are spelled.
 
-ghost use Rattle.std.specs.Prelude.{◌≡◌, ◌≤◌, ◌<◌, ◌^◌, ◌++◌, ◌∷◌, [], length, All, OnOk, IfOk};
-ghost use Rattle.std.specs.List.{AllByRecursion, flat_map};
+ghost use Rattle.std.specs.Prelude.{◌≡◌, ◌≤◌, ◌<◌, ◌^◌, ◌++◌, length, OnOk, IfOk};
 ghost use Rattle.cf_model.specs.Frames.{spell_request};
 ghost use Rattle.cf_wire.specs.Spelled.{FitsRequest, HasRoom, IsRequest};
 

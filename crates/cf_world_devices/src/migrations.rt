@@ -1,6 +1,6 @@
 //! The volume of a device, put into format 2.
 
-ghost use Rattle.std.specs.Prelude.{◌≡◌, ◌≢◌, ◌⊎◌, ◌≤◌, ◌+◌, ℕ, length, List, Err, IfErr, OnErr, OnOk};
+ghost use Rattle.std.specs.Prelude.{◌≡◌, ◌≢◌, ◌⊎◌, ◌≤◌, ℕ, length, List, Err, IfErr, OnErr, OnOk};
 ghost use Rattle.cf_base.specs.declared.codes.CallError.TheVariants as fails;
 ghost use Rattle.cf_base.specs.declared.codes.Code.TheVariants as code;
 ghost use Rattle.cf_base.specs.declared.statuses.Status.TheVariants as status;

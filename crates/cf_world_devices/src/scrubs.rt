@@ -1,8 +1,7 @@
 //! The bytes of a device, judged.
 
-ghost use Rattle.std.specs.Prelude.{◌≡◌, ◌≢◌, ℕ, IfOk, List};
+ghost use Rattle.std.specs.Prelude.{◌≡◌, ◌≢◌, ℕ, List};
 ghost use Rattle.cf_io.specs.Moves.{IsFront, IsQuiet, Rose};
-ghost use Rattle.cf_scrub.specs.Judgements.{IsJudgement};
 ghost use Rattle.cf_world_devices.specs.Ends.{IsBeforeWriting};
 ghost use Rattle.cf_world_devices.specs.Scrubs.{JudgesText, OfScrub, PutsJudgement, judged_status, most_judged};
 

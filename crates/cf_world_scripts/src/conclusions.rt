@@ -1,6 +1,6 @@
 //! The events of a script that was read, and what they leave, which is written in place of a report.
 
-ghost use Rattle.std.specs.Prelude.{◌≡◌, ◌≢◌, ◌≤◌, [], IsTrue, List, is_some, length, map, true};
+ghost use Rattle.std.specs.Prelude.{◌≡◌, ◌≢◌, ◌≤◌, [], IsTrue, List, is_some, length, true};
 ghost use Rattle.std.specs.List.{list_all};
 ghost use Rattle.cf_base.specs.declared.answers.Answer.{Answer as Answered};
 ghost use Rattle.cf_base.specs.declared.events.Event.{Event as Done};

@@ -1,7 +1,7 @@
 //! A report on its way to a sink: its texts wait until they are worth a write.
 
-ghost use Rattle.std.specs.Prelude.{◌≡◌, ◌≤◌, ◌++◌, List, Option, ℕ, IfErr, IfOk, OnErr, OnOk, IsErrOf};
-ghost use Rattle.cf_io.specs.Moves.{Rose, Adds, AddsFront};
+ghost use Rattle.std.specs.Prelude.{◌≤◌, ◌++◌, List, Option, ℕ, IfErr, IfOk, OnErr, OnOk, IsErrOf};
+ghost use Rattle.cf_io.specs.Moves.{Rose, AddsFront};
 ghost use Rattle.cf_world_scripts.specs.Steps.{AddFails, Hands, IsDrafted, IsOfSink};
 
 use crate::play_errors::PlayError;

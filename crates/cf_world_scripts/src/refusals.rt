@@ -1,6 +1,6 @@
 //! What is written of a script that is not read.
 
-ghost use Rattle.std.specs.Prelude.{◌≡◌, ◌≢◌, IfErr, IfOk, IsErrOf, List, OnErr, OnOk, string_bytes, ℕ};
+ghost use Rattle.std.specs.Prelude.{◌≡◌, ◌≢◌, IfErr, IfOk, IsErrOf, OnErr, OnOk, string_bytes};
 ghost use Rattle.cf_io.specs.Moves.{Adds, AddsFront, Rose};
 ghost use Rattle.cf_script.specs.FailEvents.{IsCause};
 ghost use Rattle.cf_script.specs.Script.{lines_of};

@@ -1,6 +1,6 @@
 //! The table as changes would leave it that are not made.
 
-ghost use Rattle.std.specs.Prelude.{◌≡◌, ◌≤◌, ◌+◌, ◌*◌, ◌∷◌, [], ◌++◌, ℕ, length, min, option_copied, IfOk, IfSome, OnOk};
+ghost use Rattle.std.specs.Prelude.{◌≡◌, ◌+◌, ◌*◌, ◌∷◌, [], ◌++◌, ℕ, length, min, option_copied, IfOk, IfSome, OnOk};
 ghost use Rattle.cf_clusters.specs.Roles.{how_many, is_now};
 ghost use Rattle.cf_volume_image.specs.Contents.{image_of};
 ghost use Rattle.cf_model.specs.Formats.{spell_image};

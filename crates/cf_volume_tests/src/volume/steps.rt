@@ -1,6 +1,6 @@
 //! The calls as the tests make them. They say nothing of what the calls promise, so that the tests are proved at once.
 
-ghost use Rattle.std.specs.Prelude.{◌≡◌, ◌≤◌, ◌+◌, ◌^◌, Some, IfOk, IsTrue};
+ghost use Rattle.std.specs.Prelude.{◌≤◌, ◌+◌, ◌^◌, Some, IfOk, IsTrue};
 ghost use Rattle.cf_volume.specs.Calls.{IsHere};
 
 use crate::volume::edits::{Edit, change_of, fits};
