@@ -1,6 +1,5 @@
 //! Calls that wait, and what the provider is asked for them.
 
-
 use crate::bytes::Blob;
 use crate::codes::Code;
 use crate::ids::{ItemId, Key};
