@@ -23,6 +23,9 @@ some_items zero b is unless = let z : true ≡ false = sym is ∙ unless in cc
 some_items (suc n) b is unless = omega arith
 
 module _ {T : Type 0} where
+  pub some_more : (a : List T) (x : T) (b : List T) → 0 < length (a ++ x ∷ b)
+  some_more a x b = omega (arith, length-append a (x ∷ b))
+
   pub filled_at : (cs : List (List T)) (n : ℕ) (d : List T) → AreFilled cs → n < length cs → 0 < length (get_or cs n d)
   filled_at [] n d f lt = absurd (omega arith)
   filled_at (c ∷ cs) zero d f lt = f.0

@@ -1,6 +1,6 @@
 -- What comes before a place in a list of chunks, and what stands behind it.
-use Rattle.std.proofs.Common.{◌≡◌, ℕ, zero, suc, ◌<◌, ◌≤◌, Bool, true, false, cond, List, [], ◌∷◌, ◌++◌, length, length-drop, get_or, set, drop, take, append_assoc, append-nil, refl, sym, ap, ◌∙◌, ◌+◌, ◌-◌, arith}
-use Rattle.std.proofs.lemmas.Bool.{cond-true, cond-false}
+use Rattle.std.proofs.Common.{◌≡◌, ℕ, zero, suc, ◌<◌, ◌≤◌, Bool, true, false, cond, List, [], ◌∷◌, ◌++◌, length, length-drop, get_or, set, drop, take, append_assoc, append-nil, refl, sym, ap, ◌∙◌, ◌+◌, ◌-◌, arith, inl, inr}
+use Rattle.std.proofs.lemmas.Bool.{cases_lt, cond-true, cond-false}
 use Rattle.cf_collections.specs.Split.{AreFilled, IsSplit, NonePass, behind, flat, front, last_passes, rest}
 
 module _ {T : Type 0} (p : T → Bool) where
@@ -122,6 +122,22 @@ module _ {T : Type 0} (p : T → Bool) where
     by more (suc m) true h e lt = behind_all c (flat cs) (all_pass c (flat cs) s h) ∙ more m (omega arith) (omega arith)
     by more zero false h e lt = behind_none c (flat cs) (none_after c (flat cs) f.0 s h)
     by more (suc m) false h e lt = absurd (omega arith)
+
+  -- where an item is behind the place, a chunk is
+  pub chunk_there : (cs : List (List T)) (n : ℕ) → IsSplit p (flat cs) → n ≡ length (front (last_passes p) cs) → n ≤ length cs → 0 < length (behind p (flat cs)) → n < length cs
+  chunk_there cs n s at le some = elim (cases_lt n (length cs)) [
+    | inl less ↦ less
+    | inr more ↦
+        let none : behind p (flat cs) ≡ [] = all_behind (flat cs) (all_before cs s (omega (arith, at, le, more))) in
+        absurd (omega (arith, some, ap (λ (l : List T). length l) none))
+  ]
+
+  -- and the first one is that of the chunk
+  pub first_there : (cs : List (List T)) (n : ℕ) (d : List T) (x : T) → AreFilled cs → IsSplit p (flat cs) → n ≡ length (front (last_passes p) cs) → n < length cs
+      → behind p (get_or cs n d) ≡ x ∷ rest (behind p (get_or cs n d)) → behind p (flat cs) ≡ x ∷ rest (behind p (flat cs))
+  first_there cs n d x f s at lt is =
+      let all : behind p (flat cs) ≡ x ∷ (rest (behind p (get_or cs n d)) ++ flat (drop (suc n) cs)) = behind_chunk cs n d f s at lt ∙ ap (λ (l : List T). l ++ flat (drop (suc n) cs)) is in
+      all ∙ ap (λ (l : List T). x ∷ rest l) (sym all)
 
   -- a chunk that does not come before the place has an item behind it
   moved_left : (R : List T → List T) → ((y : T) (b r : List T) → R ((y ∷ b) ++ r) ≡ R (y ∷ b) ++ r) → (b r : List T) → 0 < length b → R (b ++ r) ≡ R b ++ r

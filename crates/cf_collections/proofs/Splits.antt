@@ -1,5 +1,5 @@
 -- Where a list is split by a test.
-use Rattle.std.proofs.Common.{◌≡◌, ℕ, zero, suc, ◌+◌, ◌-◌, ◌<◌, ◌≤◌, Bool, true, false, cond, List, [], ◌∷◌, ◌++◌, length, get_or, take, drop, refl, sym, ap, ◌∙◌, arith}
+use Rattle.std.proofs.Common.{◌≡◌, ℕ, zero, suc, ◌+◌, ◌-◌, ◌<◌, ◌≤◌, Bool, true, false, cond, List, [], ◌∷◌, ◌++◌, length, get_or, set, take, drop, refl, sym, ap, ◌∙◌, arith}
 use Rattle.std.specs.Prelude.{insert, remove}
 use Rattle.std.specs.List.Sorted.{IsPartitionedBy}
 use Rattle.std.proofs.lemmas.Bool.{cond-true, cond-false}
@@ -89,7 +89,44 @@ module _ {T : Type 0} (p : T → Bool) where
     by more true e lt = more (omega arith)
     by more false e lt = e
 
+  pub front_within : (xs : List T) → length (front p xs) ≤ length xs
+  front_within [] = omega arith
+  front_within (x ∷ xs) = by (front_within xs) (p x) where
+    by : length (front p xs) ≤ length xs → (b : Bool) → length (cond b (x ∷ front p xs) []) ≤ suc (length xs)
+    by more true = omega (arith, more)
+    by more false = omega arith
+
+  -- the item that stands there, where one does
+
+  pub some_there : (xs r : List T) (x d : T) → behind p xs ≡ x ∷ r → (length (front p xs) < length xs) × (get_or xs (length (front p xs)) d ≡ x)
+  some_there [] r x d h = let z : ◌≡◌ {A = List T} [] (x ∷ r) = h in absurd cc
+  some_there (y ∷ ys) r x d h = by (some_there ys r x d) (p y) h where
+    by : (behind p ys ≡ x ∷ r → (length (front p ys) < length ys) × (get_or ys (length (front p ys)) d ≡ x)) → (b : Bool) → cond b (behind p ys) (y ∷ ys) ≡ x ∷ r
+        → (length (cond b (y ∷ front p ys) []) < suc (length ys)) × (get_or (y ∷ ys) (length (cond b (y ∷ front p ys) [])) d ≡ x)
+    by more true h = let m = more h in (omega (arith, m.0), m.1)
+    by more false h = (omega arith, (let z : ◌≡◌ {A = List T} (y ∷ ys) (x ∷ r) = h in cc))
+
+  pub none_there : (xs : List T) → behind p xs ≡ [] → length (front p xs) ≡ length xs
+  none_there [] h = refl
+  none_there (y ∷ ys) h = by (none_there ys) (p y) h where
+    by : (behind p ys ≡ [] → length (front p ys) ≡ length ys) → (b : Bool) → cond b (behind p ys) (y ∷ ys) ≡ [] → length (cond b (y ∷ front p ys) []) ≡ suc (length ys)
+    by more true h = ap suc (more h)
+    by more false h = let z : ◌≡◌ {A = List T} (y ∷ ys) [] = h in cc
+
   -- what comes there, and what goes
+
+  pub set_front : (xs : List T) (x : T) → length (front p xs) < length xs → set xs (length (front p xs)) x ≡ front p xs ++ x ∷ rest (behind p xs)
+  set_front [] x lt = absurd (omega arith)
+  set_front (y ∷ ys) x lt = by (set_front ys x) (p y) lt where
+    by : (length (front p ys) < length ys → set ys (length (front p ys)) x ≡ front p ys ++ x ∷ rest (behind p ys)) → (b : Bool) → length (cond b (y ∷ front p ys) []) < suc (length ys)
+        → set (y ∷ ys) (length (cond b (y ∷ front p ys) [])) x ≡ cond b (y ∷ front p ys) [] ++ x ∷ rest (cond b (behind p ys) (y ∷ ys))
+    by more true lt = ap (λ (l : List T). y ∷ l) (more (omega (arith, lt)))
+    by more false lt = refl
+
+  pub replaced_there : (xs ys new : List T) (n : ℕ) (x : T) → ys ≡ xs → n ≡ length (front p ys) → n < length xs → new ≡ set xs n x → new ≡ front p xs ++ x ∷ rest (behind p xs)
+  replaced_there xs ys new n x same at lt is =
+      let e : n ≡ length (front p xs) = at ∙ ap (λ (l : List T). length (front p l)) same in
+      is ∙ ap (λ (k : ℕ). set xs k x) e ∙ set_front xs x (omega (arith, e, lt))
 
   pub inserted_there : (xs ys new : List T) (n : ℕ) (x : T) → ys ≡ xs → n ≡ length (front p ys) → new ≡ insert xs n x → new ≡ front p xs ++ x ∷ behind p xs
   inserted_there xs ys new n x same at is =

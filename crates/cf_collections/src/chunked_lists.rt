@@ -5,6 +5,7 @@ ghost use Rattle.cf_collections.specs.Split.{AreFilled, behind, flat, front, IsS
 
 use crate::chunks::Chunk;
 use crate::items::Items;
+use crate::orders::{Order, OwnOrder, PlaceOf};
 use crate::probes::Probe;
 use crate::searches::{count_before, count_chunks_before};
 use cf_base::OutOfMemory;
@@ -41,12 +42,30 @@ impl<T> ChunkedList<T> {
         }
     }
 
+    /// The items in order. Takes no memory.
+    pub fn iter(&self) -> Items<'_, T>
+        ensures { result ≡ self.now }
+    {
+        Items::of(&[], &self.chunks)
+    }
+
     /// The items from the place on. Looks by halves, and takes no memory.
     pub fn from<P: Probe<T>>(&self, probe: &P) -> Items<'_, T>
         requires { IsSplit (P.is_behind probe.now) self.now }
         ensures { result ≡ behind (P.is_behind probe.now) self.now }
     {
         items_from(&self.chunks, probe)
+    }
+
+    /// Puts the item in place of the first one that does not come before it in the order, and gives that one. There is one. Looks by
+    /// halves, and takes no memory.
+    pub fn replace_in<O: Order<T>>(&mut self, order: &O, item: T) -> T
+        requires split { IsSplit (O.is_behind order.now item) self.old }
+        requires there { 0 < length (behind (O.is_behind order.now item) self.old) }
+        ensures value { behind (O.is_behind order.now item) self.old ≡ result ∷ rest (behind (O.is_behind order.now item) self.old) }
+        ensures items { self.new ≡ front (O.is_behind order.now item) self.old ++ item ∷ rest (behind (O.is_behind order.now item) self.old) }
+    {
+        replace_item(&mut self.chunks, order, item)
     }
 }
 
@@ -68,6 +87,16 @@ impl<T: Drop> ChunkedList<T> {
     {
         remove_item(&mut self.chunks, probe);
     }
+
+    /// Puts an item in at its place in the order. Looks by halves. Without memory nothing changes.
+    pub fn insert_in<O: Order<T>>(&mut self, order: &O, item: T) -> Result<(), OutOfMemory>
+        requires { IsSplit (O.is_behind order.now item) self.old }
+        ensures ok { OnOk result (self.new ≡ front (O.is_behind order.now item) self.old ++ item ∷ behind (O.is_behind order.now item) self.old) }
+        ensures err { OnErr result (self.new ≡ self.old) }
+    {
+        make_room(&mut self.chunks, &PlaceOf { order, item: &item })?;
+        insert_item(self.alloc, &mut self.chunks, order, item)
+    }
 }
 
 impl<T: Drop + Probe<T>> ChunkedList<T> {
@@ -77,8 +106,7 @@ impl<T: Drop + Probe<T>> ChunkedList<T> {
         ensures ok { OnOk result (self.new ≡ front (T.is_behind item) self.old ++ item ∷ behind (T.is_behind item) self.old) }
         ensures err { OnErr result (self.new ≡ self.old) }
     {
-        make_room(&mut self.chunks, &item)?;
-        insert_item(self.alloc, &mut self.chunks, item)
+        self.insert_in(&OwnOrder, item)
     }
 }
 
@@ -177,22 +205,35 @@ fn push_item<T: Drop>(alloc: Global, chunks: &mut Vec<Chunk<T>>, item: T) -> Res
     Ok(())
 }
 
-fn insert_item<T: Drop + Probe<T>>(
+fn insert_item<T: Drop, O: Order<T>>(
     alloc: Global,
     chunks: &mut Vec<Chunk<T>>,
+    order: &O,
     item: T,
 ) -> Result<(), OutOfMemory>
     requires filled { AreFilled chunks.old.items }
-    requires split { IsSplit (T.is_behind item) (flat chunks.old.items) }
-    ensures ok { OnOk result (flat chunks.new.items ≡ front (T.is_behind item) (flat chunks.old.items) ++ item ∷ behind (T.is_behind item) (flat chunks.old.items)) }
+    requires split { IsSplit (O.is_behind order.now item) (flat chunks.old.items) }
+    ensures ok { OnOk result (flat chunks.new.items ≡ front (O.is_behind order.now item) (flat chunks.old.items) ++ item ∷ behind (O.is_behind order.now item) (flat chunks.old.items)) }
     ensures filled { AreFilled chunks.new.items }
     ensures err { OnErr result (flat chunks.new.items ≡ flat chunks.old.items) }
 {
-    let place = count_chunks_before(chunks, &item);
+    let place = count_chunks_before(chunks, &PlaceOf { order, item: &item });
     if place == chunks.len() {
         return push_item(alloc, chunks, item);
     }
-    chunks[place].insert(item)
+    chunks[place].insert(order, item)
+}
+
+fn replace_item<T, O: Order<T>>(chunks: &mut Vec<Chunk<T>>, order: &O, item: T) -> T
+    requires filled { AreFilled chunks.old.items }
+    requires split { IsSplit (O.is_behind order.now item) (flat chunks.old.items) }
+    requires there { 0 < length (behind (O.is_behind order.now item) (flat chunks.old.items)) }
+    ensures value { behind (O.is_behind order.now item) (flat chunks.old.items) ≡ result ∷ rest (behind (O.is_behind order.now item) (flat chunks.old.items)) }
+    ensures items { flat chunks.new.items ≡ front (O.is_behind order.now item) (flat chunks.old.items) ++ item ∷ rest (behind (O.is_behind order.now item) (flat chunks.old.items)) }
+    ensures filled { AreFilled chunks.new.items }
+{
+    let place = count_chunks_before(chunks, &PlaceOf { order, item: &item });
+    chunks[place].replace(order, item)
 }
 
 fn remove_item<T: Drop, P: Probe<T>>(chunks: &mut Vec<Chunk<T>>, probe: &P)

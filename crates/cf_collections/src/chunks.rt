@@ -3,6 +3,7 @@
 ghost use Rattle.std.specs.Prelude.{◌≡◌, ◌≤◌, ◌<◌, ◌++◌, ◌∷◌, [], length, OnErr, OnOk, IfOk, false, true};
 ghost use Rattle.cf_collections.specs.Split.{behind, front, IsSplit, last_passes, rest};
 
+use crate::orders::{Order, PlaceOf};
 use crate::probes::Probe;
 use crate::searches::count_before;
 use cf_base::OutOfMemory;
@@ -51,6 +52,17 @@ impl<T> Chunk<T> {
         }
         probe.is_behind(&self.items[len - 1])
     }
+
+    /// Puts the item in place of the first one that does not come before it in the order, and gives that one.
+    pub(crate) fn replace<O: Order<T>>(&mut self, order: &O, item: T) -> T
+        requires split { IsSplit (O.is_behind order.now item) self.old }
+        requires there { last_passes (O.is_behind order.now item) self.old ≡ false }
+        ensures value { behind (O.is_behind order.now item) self.old ≡ result ∷ rest (behind (O.is_behind order.now item) self.old) }
+        ensures items { self.new ≡ front (O.is_behind order.now item) self.old ++ item ∷ rest (behind (O.is_behind order.now item) self.old) }
+    {
+        let place = count_before(&self.items, &PlaceOf { order, item: &item });
+        std::mem::replace(&mut self.items[place], item)
+    }
 }
 
 impl<T: Drop> Chunk<T> {
@@ -90,6 +102,17 @@ impl<T: Drop> Chunk<T> {
         self.items.remove(place)
     }
 
+    /// Puts an item in at its place in the order. Without memory nothing changes.
+    pub(crate) fn insert<O: Order<T>>(&mut self, order: &O, item: T) -> Result<(), OutOfMemory>
+        requires { IsSplit (O.is_behind order.now item) self.old }
+        ensures ok { OnOk result (self.new ≡ front (O.is_behind order.now item) self.old ++ item ∷ behind (O.is_behind order.now item) self.old) }
+        ensures err { OnErr result (self.new ≡ self.old) }
+    {
+        let place = count_before(&self.items, &PlaceOf { order, item: &item });
+        self.items.insert(place, item)?;
+        Ok(())
+    }
+
     /// Takes the second half out. Without memory nothing changes.
     pub(crate) fn halve(&mut self) -> Result<Chunk<T>, OutOfMemory>
         requires { 2 ≤ length self.old }
@@ -101,18 +124,5 @@ impl<T: Drop> Chunk<T> {
         let half = self.items.len() / 2;
         let items = self.items.split_off(half)?;
         Ok(Chunk { items })
-    }
-}
-
-impl<T: Drop + Probe<T>> Chunk<T> {
-    /// Puts an item in at its place. Without memory nothing changes.
-    pub(crate) fn insert(&mut self, item: T) -> Result<(), OutOfMemory>
-        requires { IsSplit (T.is_behind item) self.old }
-        ensures ok { OnOk result (self.new ≡ front (T.is_behind item) self.old ++ item ∷ behind (T.is_behind item) self.old) }
-        ensures err { OnErr result (self.new ≡ self.old) }
-    {
-        let place = count_before(&self.items, &item);
-        self.items.insert(place, item)?;
-        Ok(())
     }
 }

@@ -1,11 +1,10 @@
 -- Records that fit rows, one after the other.
-use Rattle.std.proofs.Common.{◌≡◌, ℕ, suc, ◌+◌, ◌<◌, Bool, true, false, cond, List, [], ◌∷◌, ◌==◌, ◌&&◌, drop, get_or, length, map, nat_lt, Option, Some, refl, sym, ◌∙◌, ap, subst, arith}
+use Rattle.std.proofs.Common.{◌≡◌, ℕ, Bool, true, false, cond, List, [], ◌∷◌, ◌==◌, ◌&&◌, map, nat_lt, Option, Some, refl, sym, ◌∙◌, ap, subst, arith}
 use Rattle.std.specs.List.{list_all}
 use Rattle.std.specs.Prelude.{◌↔◌, All, Err, IfOk, IsTrue, Ok, Result, find}
 use Rattle.std.specs.Option.{option_map}
-use Rattle.std.proofs.Math.Seq.{drop-cons}
 use Rattle.std.proofs.lemmas.List.Folds.{list_all-map}
-use Rattle.std.proofs.lemmas.List.Elements.{All-cons, All-get_or}
+use Rattle.std.proofs.lemmas.List.Elements.{All-cons, All-head, All-nil, All-tail}
 use Rattle.cf_base.specs.declared.answers.AuxRecord.{AuxRecord}
 use Rattle.cf_base.specs.declared.ids.ItemId.{ItemId}
 use Rattle.cf_base.specs.declared.ids.Usn.{Usn}
@@ -67,17 +66,20 @@ module _ (r : AuxRecord) (next : ItemId) (rows : List Row) where
   pub record_is : (x : Record) (b : Bool) → Says r x → b ≡ said_fits next rows x → IsTrue b ↔ RecordFits next rows r
   record_is x b says is = (λ hit. (x, says, sym is ∙ hit), λ fits. is ∙ fits_too x fits.0 says fits.1 fits.2)
 
--- all records: where those that are left fit, all do
+-- the first of those that are left, and the rest
 
-module _ (P : AuxRecord → Type 0) (records : List AuxRecord) where
-  pub one_done : (i : ℕ) (r : AuxRecord) → i < length records → r ≡ get_or records i r → P r → (All P (drop i records) → All P records) → All P (drop (i + 1) records) → All P records
-  one_done i r lt here fit all rest =
-      let after : suc i ≡ i + 1 = omega arith in
-      let left : drop i records ≡ r ∷ drop (i + 1) records = drop-cons records i r lt ∙ ap (λ (x : AuxRecord). x ∷ drop (suc i) records) (sym here) ∙ ap (λ (n : ℕ). r ∷ drop n records) after in
-      all (subst (λ (rs : List AuxRecord). All P rs) (sym left) (All-cons P r (drop (i + 1) records) fit rest))
+module _ (P : AuxRecord → Type 0) (left rest : List AuxRecord) (r : AuxRecord) (is : left ≡ r ∷ rest) where
+  pub all_of : P r → All P rest → All P left
+  all_of fit h = subst (λ (rs : List AuxRecord). All P rs) (sym is) (All-cons P r rest fit h)
 
-  pub one_fits : (i : ℕ) (r : AuxRecord) → i < length records → r ≡ get_or records i r → All P records → P r
-  one_fits i r lt here all = subst P (sym here) (All-get_or P records i r lt all)
+  pub first_of : All P left → P r
+  first_of h = All-head P r rest (subst (λ (rs : List AuxRecord). All P rs) is h)
+
+  pub rest_of : All P left → All P rest
+  rest_of h = All-tail P r rest (subst (λ (rs : List AuxRecord). All P rs) is h)
+
+pub none_left : (P : AuxRecord → Type 0) (left : List AuxRecord) → left ≡ [] → All P left
+none_left P left is = subst (λ (rs : List AuxRecord). All P rs) (sym is) (All-nil P)
 
 -- the whole
 

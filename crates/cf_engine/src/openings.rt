@@ -10,6 +10,7 @@ ghost use Rattle.cf_table.specs.Spelling.{row_value};
 use cf_base::{AuxRecord, CallError, Identity, ItemId, OutOfMemory, Usn};
 use cf_engine_queue::{Action, Record, read_record};
 use cf_table::{Row, Rows, same_usn};
+use cf_volume_image::AuxRecords;
 use std::alloc::Global;
 
 fn is_ours(identity: &Identity) -> bool
@@ -85,10 +86,11 @@ fn record_fits(alloc: Global, rows: &Rows, one: &AuxRecord) -> Result<bool, OutO
     }
 }
 
-fn records_fit(alloc: Global, rows: &Rows, records: &[AuxRecord]) -> Result<bool, OutOfMemory>
+fn records_fit(alloc: Global, rows: &Rows, records: &AuxRecords) -> Result<bool, OutOfMemory>
     ensures { IfOk result (λ fits. IsTrue fits ↔ All (RecordFits rows.now.next (map row_value rows.now.rows)) records.now) }
 {
-    for one in records {
+    let mut items = records.iter();
+    while let Some(one) = items.next() {
         if !record_fits(alloc, rows, one)? {
             return Ok(false);
         }
@@ -102,7 +104,7 @@ fn records_fit(alloc: Global, rows: &Rows, records: &[AuxRecord]) -> Result<bool
 pub(crate) fn fits_engine(
     alloc: Global,
     rows: &Rows,
-    records: &[AuxRecord],
+    records: &AuxRecords,
 ) -> Result<bool, OutOfMemory>
     ensures { IfOk result (λ fits. IsTrue fits ↔ FitsEngine rows.now.next (map row_value rows.now.rows) records.now) }
 {

@@ -31,12 +31,8 @@ pub trait EngineHost: Steps {
     fn add_line(&mut self, line: Notice) -> Result<(), CallError>
         ensures { Answers Self.sense Any (noted (with_notes (line ∷ []))) self.old result self.new };
 
-    /// The records of the book, by key.
-    fn records(&self) -> &[AuxRecord]
-        ensures { Reads Self.sense Any records_of self.now result.now };
-
-    /// The same records, which can be asked by the numbers in them.
-    fn aux_records(&self) -> &AuxRecords
+    /// The records of the book, by key. Those of uploads can be asked by the numbers in them.
+    fn records(&self) -> &AuxRecords
         ensures { Reads Self.sense Any records_of self.now result.now };
 
     /// Puts a record of the book in place of the one with its key, or beside the others where none has it. True where it was put. False

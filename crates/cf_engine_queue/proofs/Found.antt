@@ -135,9 +135,9 @@ said_none : {A : Type 0} (f : A → AuxRecord) (o : Option A) → None ≡ optio
 said_none f None e = refl
 said_none f (Some x) e = let bad : ◌≡◌ {A = Option AuxRecord} None (Some (f x)) = e in cc
 
-module _ (b : Book) (k : IsKeepable b) (rs : List AuxRecord) (same_records : rs ≡ aux_records b) (key : List ℕ) (o : Option AuxRecord) (found : AreByKey rs → o ≡ record_at key rs) where
+module _ (b : Book) (k : IsKeepable b) (rs : List AuxRecord) (same_records : rs ≡ aux_records b) (key : List ℕ) (o : Option AuxRecord) (found : o ≡ record_at key rs) where
   looked : (here : List ℕ) → key ≡ here → o ≡ record_at here (aux_records b)
-  looked here is = found (subst AreByKey (sym same_records) (by_key b k)) ∙ (λ i. record_at (is i) (same_records i))
+  looked here is = found ∙ (λ i. record_at (is i) (same_records i))
 
   pub entry_some : (token : Token) (r : AuxRecord) (e : QueueEntry) → FitsKey token.0 → key ≡ codes "q" ++ key_bytes token.0 → o ≡ Some r → IsEntry r e → Some e ≡ entry_of b token
   entry_some token r e fits is some says =

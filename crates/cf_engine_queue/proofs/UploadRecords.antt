@@ -1,79 +1,101 @@
 -- Records of one kind among those of a book, and what a queue has of them.
-use Rattle.std.proofs.Common.{◌≡◌, ℕ, zero, suc, ◌||◌, Bool, true, false, List, [], ◌∷◌, ◌++◌, take, drop, map, refl, sym, ap, ◌∙◌, subst, arith, append_assoc}
+use Rattle.std.proofs.Common.{◌≡◌, ◌||◌, Bool, true, false, not, cond, List, [], ◌∷◌, ◌++◌, map, refl, sym, ap, ◌∙◌, arith, append_assoc}
+use Rattle.std.proofs.lemmas.Bool.{cond-false, cond-true}
 use Rattle.std.proofs.lemmas.List.{append-nil}
 use Rattle.std.specs.List.{AllByRecursion, list_any}
-use Rattle.std.specs.List.Sorted.{IsPartitionedBy}
+use Rattle.std.specs.Prelude.{codes}
 use Rattle.cf_base.specs.declared.answers.AuxRecord.{AuxRecord}
+use Rattle.cf_base.specs.declared.items.SeenPath.{SeenPath}
+use Rattle.cf_collections.specs.Split.{behind, front}
 use Rattle.cf_model.specs.Books as model
 use Rattle.cf_model.specs.Books.{Book, aux_records, cursor_records, entry_record, no_book, seen_record, tombstone_record}
 use Rattle.cf_model.specs.Words.{is_empty}
 use Rattle.cf_engine_queue.specs.Books.{entry_value, removals_of, uploads_of}
 use Rattle.cf_engine_queue.specs.Keys.{is_kind_below}
-use Rattle.cf_engine_queue.specs.Order.{Divides}
 use Rattle.cf_engine_queue.specs.Records.{IsKeepable, queue_of}
 use Rattle.cf_engine_queue.specs.declared.uploads.QueueEntry.{QueueEntry}
-use Rattle.cf_engine_queue.proofs.InOrder.{all_at}
 use Rattle.cf_engine_queue.proofs.Steps.{all_both, all_mapped, cursor_is}
+use Rattle.cf_volume_image.specs.RecordLists.{stands_before}
 
 -- those that pass a test, with others behind them
 
 module _ {X : Type 0} (p : X → Bool) where
-  pub parted : (xs ys : List X) → AllByRecursion (λ x. p x ≡ true) xs → AllByRecursion (λ x. p x ≡ false) ys → IsPartitionedBy p (xs ++ ys)
-  parted [] ys h a i j d le lt hit = let bad : false ≡ true = sym (all_at (λ x. p x ≡ false) ys j d a lt) ∙ hit in cc
-  parted (x ∷ xs) ys h a zero j d le lt hit = h.0
-  parted (x ∷ xs) ys h a (suc i) zero d le lt hit = absurd (omega arith)
-  parted (x ∷ xs) ys h a (suc i) (suc j) d le lt hit = parted xs ys h.1 a i j d (omega arith) (omega arith) hit
+  pub left_behind : (xs ys : List X) → AllByRecursion (λ x. p x ≡ true) xs → AllByRecursion (λ x. p x ≡ false) ys → behind p (xs ++ ys) ≡ ys
+  left_behind [] [] h a = refl
+  left_behind [] (y ∷ ys) h a = cond-false (p y) _ _ a.0
+  left_behind (x ∷ xs) ys h a = cond-true (p x) _ _ h.0 ∙ left_behind xs ys h.1 a
 
-  pub divided : (n : ℕ) (xs ys : List X) → AllByRecursion (λ x. p x ≡ true) xs → AllByRecursion (λ x. p x ≡ false) ys → Divides p n (xs ++ ys) → (take n (xs ++ ys) ≡ xs) × (drop n (xs ++ ys) ≡ ys)
-  divided zero [] [] h a d = (refl, refl)
-  divided zero [] (y ∷ ys) h a d = (refl, refl)
-  divided (suc n) [] [] h a d = absurd d
-  divided (suc n) [] (y ∷ ys) h a d = let bad : false ≡ true = sym a.0 ∙ d.0 in cc
-  divided zero (x ∷ xs) ys h a d = let bad : true ≡ false = sym h.0 ∙ d.0 in cc
-  divided (suc n) (x ∷ xs) ys h a d = let rest = divided n xs ys h.1 a d.1 in (ap (λ (l : List X). x ∷ l) rest.0, rest.1)
+  pub stand_in_front : (xs ys : List X) → AllByRecursion (λ x. p x ≡ true) xs → AllByRecursion (λ x. p x ≡ false) ys → front p (xs ++ ys) ≡ xs
+  stand_in_front [] [] h a = refl
+  stand_in_front [] (y ∷ ys) h a = cond-false (p y) _ _ a.0
+  stand_in_front (x ∷ xs) ys h a = cond-true (p x) _ _ h.0 ∙ ap (λ (l : List X). x ∷ l) (stand_in_front xs ys h.1 a)
 
 module _ (b : Book) where
+  abbrev others : List AuxRecord
+  others = map seen_record b.seen ++ map tombstone_record b.tombstones
+
+  -- a test that all of a kind pass or fail
+  of_others : (p : AuxRecord → Bool) → ((s : SeenPath) → p (seen_record s) ≡ false) → ((t : model.Tombstone) → p (tombstone_record t) ≡ false) → AllByRecursion (λ (r : AuxRecord). p r ≡ false) others
+  of_others p h k = all_both (λ (r : AuxRecord). p r ≡ false) (map seen_record b.seen) (map tombstone_record b.tombstones) (all_mapped (λ (r : AuxRecord). p r ≡ false) seen_record b.seen h) (all_mapped (λ (r : AuxRecord). p r ≡ false) tombstone_record b.tombstones k)
+
+  parts : aux_records b ≡ cursor_records b.cursor ++ (map entry_record b.entries ++ others)
+  parts =
+      append_assoc (cursor_records b.cursor ++ map entry_record b.entries) (map seen_record b.seen) (map tombstone_record b.tombstones)
+      ∙ append_assoc (cursor_records b.cursor) (map entry_record b.entries) others
+
+  after_cursor : behind (stands_before (codes "q")) (aux_records b) ≡ map entry_record b.entries ++ others
+  after_cursor =
+      ap (behind (stands_before (codes "q"))) parts
+      ∙ left_behind (stands_before (codes "q")) (cursor_records b.cursor) (map entry_record b.entries ++ others) (cursor_is (λ (r : AuxRecord). stands_before (codes "q") r ≡ true) b.cursor refl)
+      (all_both (λ (r : AuxRecord). stands_before (codes "q") r ≡ false) (map entry_record b.entries) others (all_mapped (λ (r : AuxRecord). stands_before (codes "q") r ≡ false) entry_record b.entries (λ e. refl)) (of_others (stands_before (codes "q")) (λ s. refl) (λ t. refl)))
+
+  low : AllByRecursion (λ (r : AuxRecord). is_kind_below 114 r ≡ true) (map entry_record b.entries)
+  low = all_mapped (λ (r : AuxRecord). is_kind_below 114 r ≡ true) entry_record b.entries (λ e. refl)
+
+  high : AllByRecursion (λ (r : AuxRecord). is_kind_below 114 r ≡ false) others
+  high = of_others (is_kind_below 114) (λ s. refl) (λ t. refl)
+
+  pub entries_are : (rs : List AuxRecord) → rs ≡ aux_records b → front (is_kind_below 114) (behind (stands_before (codes "q")) rs) ≡ map entry_record b.entries
+  entries_are rs same =
+      ap (λ (l : List AuxRecord). front (is_kind_below 114) (behind (stands_before (codes "q")) l)) same ∙ ap (front (is_kind_below 114)) after_cursor
+      ∙ stand_in_front (is_kind_below 114) (map entry_record b.entries) others low high
+
+  -- whether there are some
+
+  first_of : (es : List model.QueueEntry) (ys left : List AuxRecord) (r : AuxRecord) → AllByRecursion (λ (x : AuxRecord). is_kind_below 114 x ≡ false) ys → map entry_record es ++ ys ≡ r ∷ left → is_kind_below 114 r ≡ not (is_empty es)
+  first_of [] [] left r a h = let z : ◌≡◌ {A = List AuxRecord} [] (r ∷ left) = h in absurd cc
+  first_of [] (y ∷ ys) left r a h = let e : r ≡ y = (let z : ◌≡◌ {A = List AuxRecord} (y ∷ ys) (r ∷ left) = h in cc) in ap (is_kind_below 114) e ∙ a.0
+  first_of (x ∷ es) ys left r a h = let e : r ≡ entry_record x = (let z : ◌≡◌ {A = List AuxRecord} (entry_record x ∷ (map entry_record es ++ ys)) (r ∷ left) = h in cc) in ap (is_kind_below 114) e
+
+  none_of : (es : List model.QueueEntry) (ys : List AuxRecord) → map entry_record es ++ ys ≡ [] → false ≡ not (is_empty es)
+  none_of [] ys h = refl
+  none_of (x ∷ es) ys h = let z : ◌≡◌ {A = List AuxRecord} (entry_record x ∷ (map entry_record es ++ ys)) [] = h in absurd cc
+
+  pub some_uploads : (rs from left : List AuxRecord) (r : AuxRecord) → rs ≡ aux_records b → from ≡ behind (stands_before (codes "q")) rs → from ≡ r ∷ left → is_kind_below 114 r ≡ not (is_empty b.entries)
+  some_uploads rs from left r same is here = first_of b.entries others left r high (sym after_cursor ∙ ap (behind (stands_before (codes "q"))) (sym same) ∙ sym is ∙ here)
+
+  pub no_uploads : (rs from : List AuxRecord) → rs ≡ aux_records b → from ≡ behind (stands_before (codes "q")) rs → from ≡ [] → false ≡ not (is_empty b.entries)
+  no_uploads rs from same is none = none_of b.entries others (sym after_cursor ∙ ap (behind (stands_before (codes "q"))) (sym same) ∙ sym is ∙ none)
+
+  -- removals
+
   abbrev front_of : List AuxRecord
-  front_of = cursor_records b.cursor ++ map entry_record b.entries
+  front_of = cursor_records b.cursor ++ map entry_record b.entries ++ map seen_record b.seen
 
-  abbrev behind : List AuxRecord
-  behind = map seen_record b.seen ++ map tombstone_record b.tombstones
+  before : AllByRecursion (λ (r : AuxRecord). stands_before (codes "t") r ≡ true) front_of
+  before = all_both (λ (r : AuxRecord). stands_before (codes "t") r ≡ true) (cursor_records b.cursor ++ map entry_record b.entries) (map seen_record b.seen)
+      (all_both (λ (r : AuxRecord). stands_before (codes "t") r ≡ true) (cursor_records b.cursor) (map entry_record b.entries) (cursor_is (λ (r : AuxRecord). stands_before (codes "t") r ≡ true) b.cursor refl) (all_mapped (λ (r : AuxRecord). stands_before (codes "t") r ≡ true) entry_record b.entries (λ e. refl)))
+      (all_mapped (λ (r : AuxRecord). stands_before (codes "t") r ≡ true) seen_record b.seen (λ p. refl))
 
-  low : AllByRecursion (λ (r : AuxRecord). is_kind_below 114 r ≡ true) front_of
-  low = all_both (λ (r : AuxRecord). is_kind_below 114 r ≡ true) (cursor_records b.cursor) (map entry_record b.entries) (cursor_is (λ (r : AuxRecord). is_kind_below 114 r ≡ true) b.cursor refl) (all_mapped (λ (r : AuxRecord). is_kind_below 114 r ≡ true) entry_record b.entries (λ e. refl))
+  last : AllByRecursion (λ (r : AuxRecord). stands_before (codes "t") r ≡ false) (map tombstone_record b.tombstones)
+  last = all_mapped (λ (r : AuxRecord). stands_before (codes "t") r ≡ false) tombstone_record b.tombstones (λ t. refl)
 
-  high : AllByRecursion (λ (r : AuxRecord). is_kind_below 114 r ≡ false) behind
-  high = all_both (λ (r : AuxRecord). is_kind_below 114 r ≡ false) (map seen_record b.seen) (map tombstone_record b.tombstones) (all_mapped (λ (r : AuxRecord). is_kind_below 114 r ≡ false) seen_record b.seen (λ s. refl)) (all_mapped (λ (r : AuxRecord). is_kind_below 114 r ≡ false) tombstone_record b.tombstones (λ t. refl))
-
-  pub front_is : (rs front : List AuxRecord) (n : ℕ) → rs ≡ aux_records b → (IsPartitionedBy (is_kind_below 114) rs → Divides (is_kind_below 114) n rs) → front ≡ take n rs → front ≡ front_of
-  front_is rs front n same h is =
-      let parts : rs ≡ front_of ++ behind = same ∙ append_assoc front_of (map seen_record b.seen) (map tombstone_record b.tombstones) in
-      let d = subst (λ (l : List AuxRecord). Divides (is_kind_below 114) n l) parts (h (subst (λ (l : List AuxRecord). IsPartitionedBy (is_kind_below 114) l) (sym parts) (parted (is_kind_below 114) front_of behind low high))) in
-      is ∙ ap (take n) parts ∙ (divided (is_kind_below 114) n front_of behind low high d).0
-
-  first : AllByRecursion (λ (r : AuxRecord). is_kind_below 113 r ≡ true) (cursor_records b.cursor)
-  first = cursor_is (λ (r : AuxRecord). is_kind_below 113 r ≡ true) b.cursor refl
-
-  later : AllByRecursion (λ (r : AuxRecord). is_kind_below 113 r ≡ false) (map entry_record b.entries)
-  later = all_mapped (λ (r : AuxRecord). is_kind_below 113 r ≡ false) entry_record b.entries (λ e. refl)
-
-  pub entries_are : (front entries : List AuxRecord) (n : ℕ) → front ≡ front_of → (IsPartitionedBy (is_kind_below 113) front → Divides (is_kind_below 113) n front) → entries ≡ drop n front → entries ≡ map entry_record b.entries
-  entries_are front entries n same h is =
-      let d = subst (λ (l : List AuxRecord). Divides (is_kind_below 113) n l) same (h (subst (λ (l : List AuxRecord). IsPartitionedBy (is_kind_below 113) l) (sym same) (parted (is_kind_below 113) (cursor_records b.cursor) (map entry_record b.entries) first later))) in
-      is ∙ ap (drop n) same ∙ (divided (is_kind_below 113) n (cursor_records b.cursor) (map entry_record b.entries) first later d).1
-
-  before : AllByRecursion (λ (r : AuxRecord). is_kind_below 116 r ≡ true) (front_of ++ map seen_record b.seen)
-  before = all_both (λ (r : AuxRecord). is_kind_below 116 r ≡ true) front_of (map seen_record b.seen)
-      (all_both (λ (r : AuxRecord). is_kind_below 116 r ≡ true) (cursor_records b.cursor) (map entry_record b.entries) (cursor_is (λ (r : AuxRecord). is_kind_below 116 r ≡ true) b.cursor refl) (all_mapped (λ (r : AuxRecord). is_kind_below 116 r ≡ true) entry_record b.entries (λ e. refl)))
-      (all_mapped (λ (r : AuxRecord). is_kind_below 116 r ≡ true) seen_record b.seen (λ p. refl))
-
-  last : AllByRecursion (λ (r : AuxRecord). is_kind_below 116 r ≡ false) (map tombstone_record b.tombstones)
-  last = all_mapped (λ (r : AuxRecord). is_kind_below 116 r ≡ false) tombstone_record b.tombstones (λ t. refl)
-
-  pub tombstones_are : (rs tombstones : List AuxRecord) (n : ℕ) → rs ≡ aux_records b → (IsPartitionedBy (is_kind_below 116) rs → Divides (is_kind_below 116) n rs) → tombstones ≡ drop n rs → tombstones ≡ map tombstone_record b.tombstones
-  tombstones_are rs tombstones n same h is =
-      let d = subst (λ (l : List AuxRecord). Divides (is_kind_below 116) n l) same (h (subst (λ (l : List AuxRecord). IsPartitionedBy (is_kind_below 116) l) (sym same) (parted (is_kind_below 116) (front_of ++ map seen_record b.seen) (map tombstone_record b.tombstones) before last))) in
-      is ∙ ap (drop n) same ∙ (divided (is_kind_below 116) n (front_of ++ map seen_record b.seen) (map tombstone_record b.tombstones) before last d).1
+  pub tombstones_are : (rs : List AuxRecord) → rs ≡ aux_records b → front (is_kind_below 117) (behind (stands_before (codes "t")) rs) ≡ map tombstone_record b.tombstones
+  tombstones_are rs same =
+      ap (λ (l : List AuxRecord). front (is_kind_below 117) (behind (stands_before (codes "t")) l)) same
+      ∙ ap (front (is_kind_below 117)) (left_behind (stands_before (codes "t")) front_of (map tombstone_record b.tombstones) before last)
+      ∙ ap (front (is_kind_below 117)) (sym (append-nil (map tombstone_record b.tombstones)))
+      ∙ stand_in_front (is_kind_below 117) (map tombstone_record b.tombstones) [] (all_mapped (λ (r : AuxRecord). is_kind_below 117 r ≡ true) tombstone_record b.tombstones (λ t. refl)) tt
 
   -- the book of uploads alone, and that of removals
 
@@ -103,7 +125,3 @@ any_mapped p (e ∷ es) = ap (λ (b : Bool). p (entry_value e) || b) (any_mapped
 
 pub any_of_uploads : (p : model.QueueEntry → Bool) (es : List QueueEntry) (queue b : Book) (x : Bool) → x ≡ list_any (λ e. p (entry_value e)) es → map entry_value es ≡ queue.entries → queue ≡ uploads_of b → x ≡ list_any p b.entries
 any_of_uploads p es queue b x is entries same = is ∙ any_mapped p es ∙ ap (list_any p) (entries ∙ ap (λ (q : Book). q.entries) same)
-
-pub empty_mapped : {A B : Type 0} (f : A → B) (xs : List A) → is_empty (map f xs) ≡ is_empty xs
-empty_mapped f [] = refl
-empty_mapped f (x ∷ xs) = refl

@@ -1,12 +1,10 @@
 //! Single records of a book, found by their keys.
 
-ghost use Rattle.std.specs.Prelude.{◌≡◌, ◌==◌, ◌&&◌, codes, IfOk, option_copied, option_map, slice_get};
+ghost use Rattle.std.specs.Prelude.{◌≡◌, ◌==◌, ◌&&◌, codes, IfOk, option_map};
 ghost use Rattle.cf_base.specs.declared.items.SeenPath.{SeenPath as SeenAt};
 ghost use Rattle.cf_model.specs.Books.{Book, aux_records, entry_of, seen_of, tombstone_of};
-ghost use Rattle.cf_model.specs.Words.{comes_before, same, says};
+ghost use Rattle.cf_model.specs.Words.{same, says};
 ghost use Rattle.cf_engine_queue.specs.Books.{entry_value, tombstone_value};
-ghost use Rattle.cf_engine_queue.specs.Keys.{AreByKey, record_at};
-ghost use Rattle.cf_engine_queue.specs.Order.{Divides};
 ghost use Rattle.cf_engine_queue.specs.Records.{IsCursor, IsEntry, IsKeepable, IsSeen, IsTombstone};
 
 use crate::fields::number_and_rest;
@@ -15,53 +13,13 @@ use crate::record_writes::{entry_key, seen_key, tombstone_key};
 use crate::records::Record;
 use crate::uploads::{QueueEntry, Tombstone};
 use cf_base::{AuxRecord, ItemId, OutOfMemory, Rid, SeenPath, Token, Usn, no_such_state};
+use cf_volume_image::AuxRecords;
 use std::alloc::Global;
-
-fn is_before(key: &[u8], other: &[u8]) -> bool
-    ensures { result ≡ comes_before key.now other.now }
-{
-    key.cmp(other).is_lt()
-}
 
 fn is_same(bytes: &[u8], other: &[u8]) -> bool
     ensures { result ≡ same bytes.now other.now }
 {
     bytes == other
-}
-
-fn has_key(record: &AuxRecord, key: &[u8]) -> bool
-    ensures { result ≡ same record.now.key key.now }
-{
-    is_same(record.key.as_slice(), key)
-}
-
-// How many records come before one with the key, by halves.
-fn place_of(records: &[AuxRecord], key: &[u8]) -> usize
-    ensures { AreByKey records.now → Divides (λ r. comes_before r.key key.now) result records.now }
-{
-    records.partition_point(|r| is_before(r.key.as_slice(), key))
-}
-
-// Whether the record at the place has the key.
-fn is_at(records: &[AuxRecord], place: usize, key: &[u8]) -> bool
-    ensures { result ≡ says (λ r. same r.key key.now) (slice_get records.now place) }
-{
-    match records.get(place) {
-        Some(record) => has_key(record, key),
-        None => false,
-    }
-}
-
-// The record with the key, among records in order of key.
-fn find_record<'a>(records: &'a [AuxRecord], key: &[u8]) -> Option<&'a AuxRecord>
-    ensures { AreByKey records.now → option_copied result ≡ record_at key.now records.now }
-{
-    let place = place_of(records, key);
-    if is_at(records, place, key) {
-        records.get(place)
-    } else {
-        None
-    }
 }
 
 // What a record of a book says. Such a book has no record that says something else.
@@ -109,13 +67,13 @@ fn cursor_said(record: &AuxRecord) -> Result<u64, OutOfMemory>
 /// where they are the records of no book.
 pub fn find_entry(
     alloc: Global,
-    records: &[AuxRecord],
+    records: &AuxRecords,
     token: Token,
 ) -> Result<Option<QueueEntry>, OutOfMemory>
     ensures { (b : Book) → IsKeepable b → records.now ≡ aux_records b → IfOk result (λ o. option_map entry_value o ≡ entry_of b token) }
 {
     let key = entry_key(alloc, token)?;
-    match find_record(records, key.as_slice()) {
+    match records.get(key.as_slice()) {
         Some(record) => Ok(Some(entry_said(alloc, record)?)),
         None => Ok(None),
     }
@@ -124,13 +82,13 @@ pub fn find_entry(
 /// The path at which an item was seen, among the records of a book. As `find_entry`.
 pub fn find_seen(
     alloc: Global,
-    records: &[AuxRecord],
+    records: &AuxRecords,
     item: ItemId,
 ) -> Result<Option<SeenPath>, OutOfMemory>
     ensures { (b : Book) → IsKeepable b → records.now ≡ aux_records b → IfOk result (λ o. o ≡ seen_of b item) }
 {
     let key = seen_key(alloc, item)?;
-    match find_record(records, key.as_slice()) {
+    match records.get(key.as_slice()) {
         Some(record) => Ok(Some(seen_said(alloc, record)?)),
         None => Ok(None),
     }
@@ -156,7 +114,7 @@ fn has_path(record: &AuxRecord, parent: Rid, name: &[u8]) -> Result<bool, OutOfM
 /// the logarithm of their count, and no memory but for a key. Out of memory also where they are the records of no book.
 pub fn is_seen_at(
     alloc: Global,
-    records: &[AuxRecord],
+    records: &AuxRecords,
     item: ItemId,
     parent: Rid,
     name: &[u8],
@@ -164,7 +122,7 @@ pub fn is_seen_at(
     ensures { (b : Book) → IsKeepable b → records.now ≡ aux_records b → IfOk result (λ x. x ≡ says (λ p. (parent.0 == p.parent.0) && same name.now p.name) (seen_of b item)) }
 {
     let key = seen_key(alloc, item)?;
-    match find_record(records, key.as_slice()) {
+    match records.get(key.as_slice()) {
         Some(record) => has_path(record, parent, name),
         None => Ok(false),
     }
@@ -173,13 +131,13 @@ pub fn is_seen_at(
 /// The tombstone with this number, among the records of a book. As `find_entry`.
 pub fn find_tombstone(
     alloc: Global,
-    records: &[AuxRecord],
+    records: &AuxRecords,
     number: Usn,
 ) -> Result<Option<Tombstone>, OutOfMemory>
     ensures { (b : Book) → IsKeepable b → records.now ≡ aux_records b → IfOk result (λ o. option_map tombstone_value o ≡ tombstone_of b number) }
 {
     let key = tombstone_key(alloc, number)?;
-    match find_record(records, key.as_slice()) {
+    match records.get(key.as_slice()) {
         Some(record) => Ok(Some(tombstone_said(alloc, record)?)),
         None => Ok(None),
     }
@@ -187,10 +145,10 @@ pub fn find_tombstone(
 
 /// The clock of the last feed that was applied whole, by the records of a book; 0 before the first. Takes no memory: it is out of
 /// memory only where they are the records of no book.
-pub fn find_cursor(records: &[AuxRecord]) -> Result<u64, OutOfMemory>
+pub fn find_cursor(records: &AuxRecords) -> Result<u64, OutOfMemory>
     ensures { (b : Book) → IsKeepable b → records.now ≡ aux_records b → IfOk result (λ clock. clock ≡ b.cursor) }
 {
-    match find_record(records, b"c") {
+    match records.get(b"c") {
         Some(record) => {
             let clock = cursor_said(record)?;
             Ok(clock)

@@ -4,13 +4,18 @@ ghost use Rattle.std.specs.Prelude.{◌≡◌, map, OnErr, OnOk, option_copied, 
 ghost use Rattle.cf_base.specs.declared.codes.CallError.{CallError};
 ghost use Rattle.cf_model.specs.Books.{Book, aux_records, entry_of, no_book, tombstone_of, with_entry, with_tombstone, without_entry, without_tombstone};
 ghost use Rattle.cf_engine_queue.specs.Books.{ComesLast, added, entry_value, tombstone_value};
+ghost use Rattle.cf_collections.specs.Split.{behind, front};
+ghost use Rattle.cf_engine_queue.specs.Keys.{is_kind_below};
 ghost use Rattle.cf_engine_queue.specs.Records.{IsKeepable, Loads, heard, queue_of};
+ghost use Rattle.cf_volume_image.specs.RecordLists.{stands_before};
 
+use crate::kinds::is_kind_below;
 use crate::ordered_lists::{Ranked, find_ranked, put_before, put_behind, take_ranked};
 use crate::record_reads::read_record;
 use crate::records::Record;
 use crate::uploads::{QueueEntry, Tombstone};
-use cf_base::{AuxRecord, CallError, OutOfMemory, Token, Usn};
+use cf_base::{CallError, OutOfMemory, Token, Usn};
+use cf_volume_image::AuxRecords;
 use std::alloc::Global;
 use std::marker::Model;
 
@@ -66,14 +71,23 @@ impl Queue {
         }
     }
 
-    /// The queue that the auxiliary records of a book say. Refused as NotAVolume exactly where one of them says nothing of a
-    /// book. Records in order of key take time as their count.
-    pub fn load(alloc: Global, records: &[AuxRecord]) -> Result<Queue, CallError>
-        ensures loaded { Loads records.now result }
-        ensures kept { (b : Book) → IsKeepable b → records.now ≡ aux_records b → MatchResult result (λ q. q ≡ queue_of b) (λ e. e ≡ CallError.OutOfMemory) }
+    /// The queue that some auxiliary records say: those from a key on, up to the first whose kind is not below `end`. Refused as
+    /// NotAVolume exactly where one of them says nothing of a book. Records in order of key take time as their count.
+    pub(crate) fn load(
+        alloc: Global,
+        records: &AuxRecords,
+        from: &[u8],
+        end: u8,
+    ) -> Result<Queue, CallError>
+        ensures loaded { Loads (front (is_kind_below end) (behind (stands_before from.now) records.now)) result }
+        ensures kept { (b : Book) → IsKeepable b → front (is_kind_below end) (behind (stands_before from.now) records.now) ≡ aux_records b → MatchResult result (λ q. q ≡ queue_of b) (λ e. e ≡ CallError.OutOfMemory) }
     {
         let mut queue = Queue::new(alloc);
-        for one in records {
+        let mut items = records.from(from);
+        while let Some(one) = items.next() {
+            if !is_kind_below(one, end) {
+                return Ok(queue);
+            }
             queue.hear(read_record(alloc, one)?)?;
         }
         Ok(queue)

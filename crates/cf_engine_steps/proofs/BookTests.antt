@@ -9,12 +9,13 @@ use Rattle.cf_base.specs.declared.ids.ItemId.{ItemId}
 use Rattle.cf_base.specs.declared.ids.Token.{Token}
 use Rattle.cf_base.specs.declared.ids.Usn.{Usn}
 use Rattle.cf_base.specs.declared.items.SeenPath.{SeenPath}
+use Rattle.cf_collections.specs.Split.{behind}
 use Rattle.cf_engine_host.specs.BookSteps.{DropsRecord, HasNumber, PutsBeside, records_of}
 use Rattle.cf_engine_host.specs.Readings.{epoch_of}
 use Rattle.cf_engine_queue.specs.Books.{token_rank, tombstone_value}
 use Rattle.cf_engine_queue.specs.declared.uploads.Tombstone as queue
 use Rattle.cf_engine_queue.specs.Keys.{AreByKey}
-use Rattle.cf_engine_queue.specs.Order.{Divides, is_above}
+use Rattle.cf_engine_queue.specs.Order.{is_above}
 use Rattle.cf_engine_queue.proofs.Found.{by_key}
 use Rattle.cf_engine_queue.specs.Records.{FitsKey, FitsUsn, IsEntry, IsKeepable, IsSeen, IsTombstone}
 use Rattle.cf_engine_queue.specs.Steps.{AreShortTokens}
@@ -34,6 +35,7 @@ use Rattle.cf_model.specs.Items.{Item, item_of}
 use Rattle.cf_model.specs.Numbers.{above, is_no_usn, most, same_usn}
 use Rattle.cf_model.specs.State.{Filter}
 use Rattle.cf_model.specs.Words.{comes_before, put_in, same, says}
+use Rattle.cf_volume_image.specs.RecordLists.{stands_before}
 
 -- a test that all records pass
 
@@ -88,15 +90,22 @@ all_after : (key first : List ℕ) (rs : List AuxRecord) → comes_after_entries
 all_after key first [] h k = refl
 all_after key first (r ∷ rs) h k = rw (or_right (comes_before r.key key) (comes_after_entries r.key) (after_goes_on first r.key h k.0), all_after key first rs h k.1) refl
 
-not_after : (b : Bool) → not b ≡ false → b ≡ true
-not_after true h = refl
-not_after false h = let z : true ≡ false = h in absurd cc
+pub none_newer : (key : List ℕ) (rs : List AuxRecord) → behind (stands_before key) rs ≡ [] → list_all (is_below key) rs ≡ true
+none_newer key [] h = refl
+none_newer key (r ∷ rs) h = by (comes_before r.key key) refl (none_newer key rs) h where
+  by : (b : Bool) → comes_before r.key key ≡ b → (behind (stands_before key) rs ≡ [] → list_all (is_below key) rs ≡ true) → cond b (behind (stands_before key) rs) (r ∷ rs) ≡ [] → list_all (is_below key) (r ∷ rs) ≡ true
+  by true hit more h = rw (or_left (comes_before r.key key) (comes_after_entries r.key) hit, more h) refl
+  by false miss more h = let z : ◌≡◌ {A = List AuxRecord} (r ∷ rs) [] = h in absurd cc
 
-pub newest_at : (key : List ℕ) (n : ℕ) (rs : List AuxRecord) → AreByKey rs → Divides (λ r. comes_before r.key key) n rs → says (λ (r : AuxRecord). not (comes_after_entries r.key)) (slice_get rs n) ≡ false → list_all (is_below key) rs ≡ true
-newest_at key zero [] o d h = refl
-newest_at key zero (r ∷ rs) o d h = let after = not_after (comes_after_entries r.key) h in rw (or_right (comes_before r.key key) (comes_after_entries r.key) after, all_after key r.key rs after o.0) refl
-newest_at key (suc n) [] o d h = absurd d
-newest_at key (suc n) (r ∷ rs) o d h = rw (or_left (comes_before r.key key) (comes_after_entries r.key) d.0, newest_at key n rs o.1 d.1 h) refl
+pub newest_from : (key : List ℕ) (rs left : List AuxRecord) (x : AuxRecord) → AreByKey rs → behind (stands_before key) rs ≡ x ∷ left → comes_after_entries x.key ≡ true → list_all (is_below key) rs ≡ true
+newest_from key [] left x o h after = let z : ◌≡◌ {A = List AuxRecord} [] (x ∷ left) = h in absurd cc
+newest_from key (r ∷ rs) left x o h after = by (comes_before r.key key) refl (λ e. newest_from key rs left x o.1 e after) h where
+  by : (b : Bool) → comes_before r.key key ≡ b → (behind (stands_before key) rs ≡ x ∷ left → list_all (is_below key) rs ≡ true) → cond b (behind (stands_before key) rs) (r ∷ rs) ≡ x ∷ left → list_all (is_below key) (r ∷ rs) ≡ true
+  by true hit more h = rw (or_left (comes_before r.key key) (comes_after_entries r.key) hit, more h) refl
+  by false miss more h =
+      let same_one : x ≡ r = (let z : ◌≡◌ {A = List AuxRecord} (r ∷ rs) (x ∷ left) = h in cc) in
+      let here : comes_after_entries r.key ≡ true = ap (λ (q : AuxRecord). comes_after_entries q.key) (sym same_one) ∙ after in
+      rw (or_right (comes_before r.key key) (comes_after_entries r.key) here, all_after key r.key rs here o.0) refl
 
 pub puts_entry : (r : AuxRecord) (e : QueueEntry) (s : Filter) → IsEntry r e → IsKeepable s.volume.book → list_all (is_below r.key) (aux_records s.volume.book) ≡ true → PutsBeside r (with_entry e) s
 puts_entry r e s is k h =

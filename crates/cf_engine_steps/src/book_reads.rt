@@ -71,14 +71,14 @@ pub fn has_entries<S: EngineHost>(s: &S) -> bool
 pub fn has_entry<S: EngineHost>(s: &S, item: ItemId) -> bool
     ensures { FilterReads S.sense AnyFilter (has_entry_in item) s.now result }
 {
-    s.aux_records().has_number(NumberPlace::First, item.0)
+    s.records().has_number(NumberPlace::First, item.0)
 }
 
 /// Whether an upload to this item of the remote is on its way. As `has_entry`.
 pub fn has_target_entry<S: EngineHost>(s: &S, rid: Rid) -> bool
     ensures { FilterReads S.sense AnyFilter (has_target_entry_in rid) s.now result }
 {
-    s.aux_records().has_number(NumberPlace::Second, rid.0)
+    s.records().has_number(NumberPlace::Second, rid.0)
 }
 
 /// Whether an item that is new to the remote is on its way there. It takes time by the uploads.

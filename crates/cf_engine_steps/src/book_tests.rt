@@ -1,30 +1,23 @@
 //! What is tested of the book before a record is put.
 
-ghost use Rattle.std.specs.Prelude.{◌≡◌, ◌||◌, IfOk, OnOk, not, slice_get, true};
+ghost use Rattle.std.specs.Prelude.{◌≡◌, ◌||◌, IfOk, OnOk, true};
 ghost use Rattle.std.specs.List.{list_all};
 ghost use Rattle.cf_base.specs.declared.answers.AuxRecord.{AuxRecord};
 ghost use Rattle.cf_base.specs.Names.{is_name};
 ghost use Rattle.cf_engine_queue.specs.Books.{entry_value, tombstone_value};
 ghost use Rattle.cf_engine_queue.specs.Keys.{AreByKey};
-ghost use Rattle.cf_engine_queue.specs.Order.{Divides};
 ghost use Rattle.cf_engine_steps.specs.Recorded.{GivenIf, NewIf, PutsIf, comes_after_entries};
 ghost use Rattle.cf_model.specs.Books.{with_entry, with_seen, with_tombstone};
-ghost use Rattle.cf_model.specs.Words.{comes_before, says};
+ghost use Rattle.cf_model.specs.Words.{comes_before};
 
 use cf_base::{AuxRecord, Name, OutOfMemory, SeenPath, Usn, is_name, no_such_state};
 use cf_engine_host::EngineHost;
 use cf_engine_queue::{QueueEntry, Tombstone, find_tombstone, spell_seen};
 use cf_table::is_above;
+use cf_volume_image::AuxRecords;
 
 /// The first byte of the keys of entries. Those of paths seen and of tombstones begin with greater ones.
 const ENTRY: u8 = b'q';
-
-// Whether a key comes before another.
-fn is_before(key: &[u8], other: &[u8]) -> bool
-    ensures { result ≡ comes_before key.now other.now }
-{
-    key.cmp(other).is_lt()
-}
 
 fn comes_after_entries(record: &AuxRecord) -> bool
     ensures { result ≡ comes_after_entries record.now.key }
@@ -35,29 +28,14 @@ fn comes_after_entries(record: &AuxRecord) -> bool
     }
 }
 
-// How many records come before one with the key, by halves.
-fn place_of(records: &[AuxRecord], key: &[u8]) -> usize
-    ensures { AreByKey records.now → Divides (λ r. comes_before r.key key.now) result records.now }
-{
-    records.partition_point(|r| is_before(r.key.as_slice(), key))
-}
-
-// Whether a record stands at the place that does not come after all entries.
-fn is_held(records: &[AuxRecord], place: usize) -> bool
-    ensures { result ≡ says (λ (r : AuxRecord). not (comes_after_entries r.key)) (slice_get records.now place) }
-{
-    match records.get(place) {
-        Some(record) => !comes_after_entries(record),
-        None => false,
-    }
-}
-
 // Whether no entry has this key or one after it, among records in order of key.
-fn is_newest(records: &[AuxRecord], key: &[u8]) -> bool
+fn is_newest(records: &AuxRecords, key: &[u8]) -> bool
     ensures { result ≡ true → AreByKey records.now → list_all (λ (r : AuxRecord). comes_before r.key key.now || comes_after_entries r.key) records.now ≡ true }
 {
-    let place = place_of(records, key);
-    !is_held(records, place)
+    match records.from(key).next() {
+        Some(record) => comes_after_entries(record),
+        None => true,
+    }
 }
 
 // Whether no tombstone has this number.

@@ -1,7 +1,9 @@
 //! What no clause says: that the calls succeed where there is memory, and some records from outside.
 
 use cf_base::{AuxRecord, Blob, ItemId, Key, OutOfMemory, Rid, Token, Usn, Version};
-use cf_engine_queue::{Action, Queue, QueueEntry, Tombstone, read_cursor, spell_cursor};
+use cf_engine_queue::{
+    Action, Queue, QueueEntry, Tombstone, read_cursor, read_record, spell_cursor,
+};
 use std::alloc::Global;
 use std::test::Fail;
 
@@ -49,10 +51,10 @@ fn aux_record(alloc: Global, key: &[u8], value: &[u8]) -> Result<AuxRecord, OutO
 
 fn is_refused(alloc: Global, key: &[u8], value: &[u8]) -> Result<bool, OutOfMemory> {
     let one = aux_record(alloc, key, value)?;
-    let loaded = Queue::load(alloc, std::slice::from_ref(&one));
+    let read = read_record(alloc, &one);
     drop(one);
-    let is_so = loaded.is_err();
-    drop(loaded);
+    let is_so = read.is_err();
+    drop(read);
     Ok(is_so)
 }
 

@@ -37,18 +37,11 @@ pub(crate) fn epoch<G: Ground>(filter: &FilterOn<G>) -> u32
     filter.volume().epoch()
 }
 
-/// The records of the book, by key.
-pub(crate) fn records<G: Ground>(filter: &FilterOn<G>) -> &[AuxRecord]
+/// The records of the book, by key. Those of uploads can be asked by the numbers in them.
+pub(crate) fn records<G: Ground>(filter: &FilterOn<G>) -> &AuxRecords
     ensures { Reads (sense G.state) Any records_of filter.now result.now }
 {
     filter.volume().records()
-}
-
-/// The same records, which can be asked by the numbers in them.
-pub(crate) fn aux_records<G: Ground>(filter: &FilterOn<G>) -> &AuxRecords
-    ensures { Reads (sense G.state) Any records_of filter.now result.now }
-{
-    filter.volume().aux_records()
 }
 
 /// Adds a line at the end of the running event's notes.

@@ -19,12 +19,8 @@ impl<G: Ground> EngineHost for FilterOn<G> {
         host_steps::add_line(self, line)
     }
 
-    fn records(&self) -> &[AuxRecord] {
+    fn records(&self) -> &AuxRecords {
         host_steps::records(self)
-    }
-
-    fn aux_records(&self) -> &AuxRecords {
-        host_steps::aux_records(self)
     }
 
     fn put_record(&mut self, record: &AuxRecord) -> Result<bool, CallError> {

@@ -10,6 +10,7 @@ use cf_base::{Ask, AuxRecord, CallError, Code, Key, Notice, Operation, OutOfMemo
 use cf_provider::{Outcome, Port};
 use cf_table::Rows;
 use cf_volume_ground::Ground;
+use cf_volume_image::AuxRecords;
 
 fn is_device(code: Code) -> bool
     ensures { result ≡ is_device code }
@@ -142,7 +143,7 @@ impl<G: Ground> Port for FilterOn<G> {
         self.machine.desk.requests().ask(key)
     }
 
-    fn records(&self) -> &[AuxRecord] {
+    fn records(&self) -> &AuxRecords {
         self.machine.volume.records()
     }
 

@@ -8,6 +8,7 @@ use cf_base::{Access, Anchor, AuxRecord, OpenedBook, OutOfMemory, Sequence, Usn}
 use cf_table::Row;
 use cf_volume::VolumeOn;
 use cf_volume_ground::Ground;
+use cf_volume_image::AuxRecords;
 use std::alloc::Global;
 
 fn is_no_usn(number: Usn) -> bool
@@ -54,11 +55,12 @@ fn copied(record: &AuxRecord) -> Result<AuxRecord, OutOfMemory>
     Ok(AuxRecord { key, value })
 }
 
-fn copies(alloc: Global, records: &[AuxRecord]) -> Result<Sequence<AuxRecord>, OutOfMemory>
+fn copies(alloc: Global, records: &AuxRecords) -> Result<Sequence<AuxRecord>, OutOfMemory>
     ensures { IfOk result (λ r. r ≡ records.now) }
 {
+    let mut items = records.iter();
     let mut copies = Sequence::new(alloc);
-    for record in records {
+    while let Some(record) = items.next() {
         copies.push(copied(record)?)?;
     }
     Ok(copies)

@@ -7,8 +7,9 @@ ghost use Rattle.cf_model.specs.Ports.{Act};
 ghost use Rattle.cf_model.specs.Requests.{live_of};
 
 use crate::outcomes::{Callback, Outcome};
-use cf_base::{Ask, AuxRecord, CallError, Key, Notice, Operation, OutOfMemory, SeenPath};
+use cf_base::{Ask, CallError, Key, Notice, Operation, OutOfMemory, SeenPath};
 use cf_table::Rows;
+use cf_volume_image::AuxRecords;
 
 /// What a provider acts on inside a callback. A port says by `goes` what its acts do to it.
 pub trait Port {
@@ -43,7 +44,7 @@ pub trait Port {
         ensures { result ≡ option_map (λ a. a.ask) (live_of (sight self.now).waiting.asks key) };
 
     /// The auxiliary records of the volume, by key.
-    fn records(&self) -> &[AuxRecord]
+    fn records(&self) -> &AuxRecords
         ensures { result.now ≡ (sight self.now).records };
 
     /// Without an act it stays as it is.

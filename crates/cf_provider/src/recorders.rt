@@ -4,8 +4,9 @@ ghost use Rattle.cf_model.specs.Requests.{none_waiting};
 
 use crate::outcomes::Outcome;
 use crate::ports::Port;
-use cf_base::{Ask, AuxRecord, CallError, Key, Notice, Operation, OutOfMemory, SeenPath, Sequence};
+use cf_base::{Ask, CallError, Key, Notice, Operation, OutOfMemory, SeenPath, Sequence};
 use cf_table::Rows;
+use cf_volume_image::AuxRecords;
 use cf_waits::Requests;
 use std::alloc::Global;
 use std::marker::Model;
@@ -25,7 +26,7 @@ pub struct Recorder {
     acts: Vec<Kept>,
     rows: Rows,
     requests: Requests,
-    records: Vec<AuxRecord>,
+    records: AuxRecords,
 }
 
 impl Model for Recorder {
@@ -33,7 +34,7 @@ impl Model for Recorder {
 
     ghost Value = { Recorded };
 
-    ghost view = { λ r. record { kept = r.acts.items; sight = record { table = r.rows; waiting = r.requests; records = r.records.items } } };
+    ghost view = { λ r. record { kept = r.acts.items; sight = record { table = r.rows; waiting = r.requests; records = r.records } } };
 }
 
 impl Recorder {
@@ -45,7 +46,7 @@ impl Recorder {
             acts: Vec::new(alloc),
             rows,
             requests: Requests::new(alloc, 1),
-            records: Vec::new(alloc),
+            records: AuxRecords::new(alloc),
         }
     }
 
@@ -98,8 +99,8 @@ impl Port for Recorder {
         self.requests.ask(key)
     }
 
-    fn records(&self) -> &[AuxRecord] {
-        self.records.as_slice()
+    fn records(&self) -> &AuxRecords {
+        &self.records
     }
 
     ghost stays = { records_none };

@@ -35,7 +35,7 @@ pub(crate) fn set_record<G: Ground>(
 {
     let _ = ground;
     let _ = parts.contents.rows.image_len();
-    let _ = parts.contents.records.as_slice();
+    let _ = parts.contents.records.image_len();
     let before = len_at(&parts.contents.records, key);
     let after = 3 + key.len() as u128 + value.len() as u128;
     if is_too_long(&parts.contents, before, after) {

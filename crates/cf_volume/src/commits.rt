@@ -35,7 +35,7 @@ pub(crate) fn commit_parts<G: Ground>(ground: &mut G, parts: &mut Parts) -> Resu
     ensures broken { parts.new.broken ≡ parts.old.broken }
 {
     let _ = parts.contents.rows.image_len();
-    let _ = parts.contents.records.as_slice();
+    let _ = parts.contents.records.image_len();
     if !can_be_written(&parts.contents) {
         return Err(CallError::No(Code::NotAVolume));
     }

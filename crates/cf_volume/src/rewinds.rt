@@ -46,7 +46,7 @@ fn rewind(parts: &mut Parts) -> Result<Data, CallError>
         &parts.then.made,
     )?;
     let _ = parts.contents.rows.image_len();
-    let _ = parts.contents.records.as_slice();
+    let _ = parts.contents.records.image_len();
     parts.contents.last = Usn {
         epoch: epoch + 1,
         place: 0,

@@ -93,15 +93,8 @@ impl<G: Ground> VolumeOn<G> {
         self.parts.contents.records.after(after)
     }
 
-    /// All auxiliary records, whose keys rise.
-    pub fn records(&self) -> &[AuxRecord]
-        ensures { result.now ≡ self.now.known.records }
-    {
-        self.parts.contents.records.as_slice()
-    }
-
-    /// The same records, which can be asked by the numbers in them.
-    pub fn aux_records(&self) -> &AuxRecords
+    /// All auxiliary records, by key. Those of uploads can be asked by the numbers in them.
+    pub fn records(&self) -> &AuxRecords
         ensures { result.now ≡ self.now.known.records }
     {
         &self.parts.contents.records

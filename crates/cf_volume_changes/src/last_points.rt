@@ -7,11 +7,10 @@ ghost use Rattle.cf_model.specs.Words.{same};
 ghost use Rattle.cf_table.specs.Tables.{AreTableRows, RisesFrom, row_of};
 ghost use Rattle.cf_volume_image.specs.Contents.{record_at};
 ghost use Rattle.cf_volume_image.specs.Enough.{has_id};
-ghost use Rattle.cf_volume_image.specs.Spelled.{AreRecordsFrom};
 ghost use Rattle.cf_volume_points.specs.Known.{or_now, record_then, row_then};
 
 use crate::record_notes::copied;
-use cf_base::{AuxRecord, ItemId, OutOfMemory};
+use cf_base::{ItemId, OutOfMemory};
 use cf_table::{Row, Rows};
 use cf_volume_image::AuxRecords;
 use std::alloc::Global;
@@ -69,11 +68,11 @@ pub fn restore_rows(
 }
 
 // Puts copies of the records in place of those with their keys, or adds them.
-fn put_records(records: &mut AuxRecords, noted: &[AuxRecord]) -> Result<(), OutOfMemory>
-    requires { AreRecordsFrom None noted.now }
+fn put_records(records: &mut AuxRecords, noted: &AuxRecords) -> Result<(), OutOfMemory>
     ensures { OnOk result ((key : List ℕ) → record_at records.new key ≡ or_now (record_at noted.now key) (record_at records.old key)) }
 {
-    for aux in noted {
+    let mut items = noted.iter();
+    while let Some(aux) = items.next() {
         let copy = copied(aux)?;
         records.put(copy)?;
     }
@@ -81,10 +80,11 @@ fn put_records(records: &mut AuxRecords, noted: &[AuxRecord]) -> Result<(), OutO
 }
 
 // Takes the records out that have the keys of these.
-fn remove_records(records: &mut AuxRecords, made: &[AuxRecord])
+fn remove_records(records: &mut AuxRecords, made: &AuxRecords)
     ensures { (key : List ℕ) → record_at records.new key ≡ cond (list_any (λ r. same r.key key) made.now) None (record_at records.old key) }
 {
-    for aux in made {
+    let mut items = made.iter();
+    while let Some(aux) = items.next() {
         records.remove(aux.key.as_slice());
     }
 }
@@ -97,7 +97,7 @@ pub fn restore_records(
 ) -> Result<(), OutOfMemory>
     ensures { OnOk result ((key : List ℕ) → record_at records.new key ≡ record_then key noted.now made.now (record_at records.old key)) }
 {
-    put_records(records, noted.as_slice())?;
-    remove_records(records, made.as_slice());
+    put_records(records, noted)?;
+    remove_records(records, made);
     Ok(())
 }

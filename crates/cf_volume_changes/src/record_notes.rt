@@ -32,7 +32,7 @@ fn copy_record(records: &AuxRecords, record: &AuxRecord) -> Result<AuxRecord, Ou
     ensures same { IfOk result (λ r. r ≡ record.now) }
     ensures short { IsShort record.now }
 {
-    let _ = records.as_slice();
+    let _ = records.image_len();
     copied(record)
 }
 

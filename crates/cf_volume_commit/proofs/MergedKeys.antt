@@ -1,9 +1,8 @@
 -- The records that differ are those noted that are still there, and the new ones.
-use Rattle.std.proofs.Common.{◌≡◌, ℕ, zero, suc, ◌+◌, ◌^◌, ◌<◌, ◌≤◌, Bool, true, false, ◌||◌, ◌&&◌, cond, List, [], ◌∷◌, ◌++◌, length, map, drop, get_or, Option, Some, None, refl, sym, ◌∙◌, ap, subst, arith, append_assoc}
+use Rattle.std.proofs.Common.{◌≡◌, ℕ, Bool, true, false, ◌||◌, ◌&&◌, cond, List, [], ◌∷◌, ◌++◌, map, Option, Some, None, refl, sym, ◌∙◌, ap, subst, append_assoc}
 use Rattle.std.specs.Prelude.{filter, is_some}
 use Rattle.std.specs.List.{list_any}
 use Rattle.std.proofs.lemmas.Bool.{true≢false}
-use Rattle.std.proofs.lemmas.List.{drop_all}
 use Rattle.cf_base.specs.declared.answers.AuxRecord.{AuxRecord}
 use Rattle.cf_volume_commit.proofs.NamedKeys.{any_found, has_filtered, keys_of}
 use Rattle.cf_volume_commit.specs.Differing.{AddsKeys, changed_keys, is_record_changed}
@@ -47,17 +46,12 @@ put_there now keys new key r some is put = record {
     by k true e = turn (is_some (record_at keys k)) ∙ ap (λ (b : Bool). is_some (record_at keys k) || (b && true)) (sym (ap (λ (l : List ℕ). is_some (record_at now l)) (sym (same_is key k e)) ∙ some))
     by k false e = or_false (is_some (record_at keys k)) ∙ ap (λ (b : Bool). is_some (record_at keys k) || b) (none_and (is_some (record_at now k)))
 
-pub short_at : (before : Option (List ℕ)) (rs : List AuxRecord) (i : ℕ) (d : AuxRecord) → AreRecordsFrom before rs → i < length rs → length (get_or rs i d).key < 2 ^ 8
-short_at before [] i d h lt = absurd (omega arith)
-short_at before (x ∷ xs) zero d h lt = h.0.0.0
-short_at before (x ∷ xs) (suc i) d h lt = short_at (Some x.key) xs i d h.1 (omega (arith, lt))
-
 -- the keys of a list, one after the other
-pub one_key : (xs : List AuxRecord) (i : ℕ) (x : AuxRecord) (out new all : List (List ℕ)) (key : List ℕ) → drop i xs ≡ x ∷ drop (i + 1) xs → key ≡ x.key → new ≡ out ++ key ∷ []
-    → out ++ map (λ (r : AuxRecord). r.key) (drop i xs) ≡ all → new ++ map (λ (r : AuxRecord). r.key) (drop (i + 1) xs) ≡ all
-one_key xs i x out new all key next is pushed so =
-    ap (λ (l : List (List ℕ)). l ++ map (λ (r : AuxRecord). r.key) (drop (i + 1) xs)) (pushed ∙ ap (λ (k : List ℕ). out ++ k ∷ []) is)
-    ∙ append_assoc out (x.key ∷ []) (map (λ (r : AuxRecord). r.key) (drop (i + 1) xs))
+pub one_key : (left rest : List AuxRecord) (x : AuxRecord) (out new all : List (List ℕ)) (key : List ℕ) → left ≡ x ∷ rest → key ≡ x.key → new ≡ out ++ key ∷ []
+    → out ++ map (λ (r : AuxRecord). r.key) left ≡ all → new ++ map (λ (r : AuxRecord). r.key) rest ≡ all
+one_key left rest x out new all key next is pushed so =
+    ap (λ (l : List (List ℕ)). l ++ map (λ (r : AuxRecord). r.key) rest) (pushed ∙ ap (λ (k : List ℕ). out ++ k ∷ []) is)
+    ∙ append_assoc out (x.key ∷ []) (map (λ (r : AuxRecord). r.key) rest)
     ∙ ap (λ (l : List AuxRecord). out ++ map (λ (r : AuxRecord). r.key) l) (sym next) ∙ so
 
 three : (a n x y : Bool) → ((a || (n && x)) || (n && y)) ≡ (a || (n && (x || y)))
@@ -67,21 +61,21 @@ three false true false y = refl
 three false false x y = refl
 
 -- one more of a list
-pub more_keys : (now old keys new noted : List AuxRecord) (i : ℕ) (x : AuxRecord) → drop i noted ≡ x ∷ drop (i + 1) noted → AddsKeys now (λ k. same x.key k) keys new
-    → ((k : List ℕ) → (is_some (record_at keys k) || (is_some (record_at now k) && list_any (λ r. same r.key k) (drop i noted))) ≡ (is_some (record_at old k) || (is_some (record_at now k) && list_any (λ r. same r.key k) noted)))
-    → (k : List ℕ) → (is_some (record_at new k) || (is_some (record_at now k) && list_any (λ r. same r.key k) (drop (i + 1) noted))) ≡ (is_some (record_at old k) || (is_some (record_at now k) && list_any (λ r. same r.key k) noted))
-more_keys now old keys new noted i x next adds so k =
-    ap (λ (b : Bool). b || (is_some (record_at now k) && list_any (λ r. same r.key k) (drop (i + 1) noted))) (adds.each k)
-    ∙ three (is_some (record_at keys k)) (is_some (record_at now k)) (same x.key k) (list_any (λ r. same r.key k) (drop (i + 1) noted))
+pub more_keys : (now old keys new noted left rest : List AuxRecord) (x : AuxRecord) → left ≡ x ∷ rest → AddsKeys now (λ k. same x.key k) keys new
+    → ((k : List ℕ) → (is_some (record_at keys k) || (is_some (record_at now k) && list_any (λ r. same r.key k) left)) ≡ (is_some (record_at old k) || (is_some (record_at now k) && list_any (λ r. same r.key k) noted)))
+    → (k : List ℕ) → (is_some (record_at new k) || (is_some (record_at now k) && list_any (λ r. same r.key k) rest)) ≡ (is_some (record_at old k) || (is_some (record_at now k) && list_any (λ r. same r.key k) noted))
+more_keys now old keys new noted left rest x next adds so k =
+    ap (λ (b : Bool). b || (is_some (record_at now k) && list_any (λ r. same r.key k) rest)) (adds.each k)
+    ∙ three (is_some (record_at keys k)) (is_some (record_at now k)) (same x.key k) (list_any (λ r. same r.key k) rest)
     ∙ ap (λ (l : List AuxRecord). is_some (record_at keys k) || (is_some (record_at now k) && list_any (λ r. same r.key k) l)) (sym next) ∙ so k
 
-pub all_keys : (now old keys noted : List AuxRecord) (i : ℕ) → length noted ≤ i
-    → ((k : List ℕ) → (is_some (record_at keys k) || (is_some (record_at now k) && list_any (λ r. same r.key k) (drop i noted))) ≡ (is_some (record_at old k) || (is_some (record_at now k) && list_any (λ r. same r.key k) noted)))
+pub all_keys : (now old keys noted left : List AuxRecord) → left ≡ []
+    → ((k : List ℕ) → (is_some (record_at keys k) || (is_some (record_at now k) && list_any (λ r. same r.key k) left)) ≡ (is_some (record_at old k) || (is_some (record_at now k) && list_any (λ r. same r.key k) noted)))
     → AddsKeys now (λ k. list_any (λ r. same r.key k) noted) old keys
-all_keys now old keys noted i le so = record {
+all_keys now old keys noted left none so = record {
   each = λ k.
       or_false (is_some (record_at keys k)) ∙ ap (λ (b : Bool). is_some (record_at keys k) || b) (none_and (is_some (record_at now k)))
-      ∙ ap (λ (l : List AuxRecord). is_some (record_at keys k) || (is_some (record_at now k) && list_any (λ r. same r.key k) l)) (sym (drop_all i noted le)) ∙ so k;
+      ∙ ap (λ (l : List AuxRecord). is_some (record_at keys k) || (is_some (record_at now k) && list_any (λ r. same r.key k) l)) (sym none) ∙ so k;
 }
 
 -- two lists of keys in order with the same keys are the same

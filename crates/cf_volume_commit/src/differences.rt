@@ -1,6 +1,6 @@
 //! What differs from the last point.
 
-ghost use Rattle.std.specs.Prelude.{◌≡◌, ◌≤◌, [], None, IfOk, OnOk, filter, is_some, length, map, nat_lt, ◌&&◌};
+ghost use Rattle.std.specs.Prelude.{◌≡◌, ◌≤◌, ◌++◌, ◌∷◌, [], None, IfOk, OnOk, filter, is_some, length, map, nat_lt, ◌&&◌};
 ghost use Rattle.std.specs.List.{list_any};
 ghost use Rattle.cf_volume_commit.specs.Differing.{AddsKeys, changed_keys, changed_rows, is_new, is_record_gone, is_row_gone, is_row_left, keys_in, removed_keys, removed_rows, rows_left};
 ghost use Rattle.cf_volume_image.specs.Contents.{record_at};
@@ -130,22 +130,23 @@ fn put_keys(
     alloc: Global,
     keys: &mut AuxRecords,
     now: &AuxRecords,
-    noted: &[AuxRecord],
+    noted: &AuxRecords,
 ) -> Result<(), OutOfMemory>
-    requires { AreRecordsFrom None noted.now }
     ensures { OnOk result (AddsKeys now.now (λ k. list_any (λ r. same r.key k) noted.now) keys.old keys.new) }
 {
-    for aux in noted {
+    let mut items = noted.iter();
+    while let Some(aux) = items.next() {
         put_key(alloc, keys, now, aux.key.as_slice())?;
     }
     Ok(())
 }
 
-fn keys_of(alloc: Global, records: &[AuxRecord]) -> Result<Vec<Blob>, OutOfMemory>
+fn keys_of(alloc: Global, records: &AuxRecords) -> Result<Vec<Blob>, OutOfMemory>
     ensures { IfOk result (λ v. v.items ≡ map (λ r. r.key) records.now) }
 {
+    let mut items = records.iter();
     let mut keys = Vec::new(alloc);
-    for aux in records {
+    while let Some(aux) = items.next() {
         keys.push(aux.key.copy()?)?;
     }
     Ok(keys)
@@ -161,10 +162,11 @@ fn listed_keys(
     requires { keys.old ≡ [] }
     ensures { IfOk result (λ v. v.items ≡ changed_keys then.now now.now) }
 {
-    let _ = now.as_slice();
-    put_keys(alloc, keys, now, then.made.as_slice())?;
-    put_keys(alloc, keys, now, then.records.as_slice())?;
-    keys_of(alloc, keys.as_slice())
+    let _ = now.image_len();
+    put_keys(alloc, keys, now, &then.made)?;
+    put_keys(alloc, keys, now, &then.records)?;
+    let _ = keys.image_len();
+    keys_of(alloc, keys)
 }
 
 // The keys of those noted that are still there, and of new ones. No other record is looked at.
@@ -177,19 +179,34 @@ fn changed_keys(alloc: Global, then: &Earlier, now: &AuxRecords) -> Result<Vec<B
     listed
 }
 
+// Adds the key of a record that is gone.
+fn push_if_gone(
+    keys: &mut Vec<Blob>,
+    then: &Earlier,
+    now: &AuxRecords,
+    aux: &AuxRecord,
+) -> Result<(), OutOfMemory>
+    ensures { OnOk result (keys.new.items ≡ keys.old.items ++ keys_in then.now now.now (aux.now ∷ [])) }
+{
+    if !is_record_gone(then, now, aux) {
+        return Ok(());
+    }
+    keys.push(aux.key.copy()?)?;
+    Ok(())
+}
+
 fn keys_gone(
     alloc: Global,
     then: &Earlier,
     now: &AuxRecords,
-    noted: &[AuxRecord],
+    noted: &AuxRecords,
 ) -> Result<Vec<Blob>, OutOfMemory>
     ensures { IfOk result (λ v. v.items ≡ keys_in then.now now.now noted.now) }
 {
+    let mut items = noted.iter();
     let mut keys = Vec::new(alloc);
-    for aux in noted {
-        if is_record_gone(then, now, aux) {
-            keys.push(aux.key.copy()?)?;
-        }
+    while let Some(aux) = items.next() {
+        push_if_gone(&mut keys, then, now, aux)?;
     }
     Ok(keys)
 }
@@ -215,11 +232,11 @@ pub(crate) fn what_differs(
     ensures changed_keys { IfOk result (λ d. d.changed_keys.items ≡ changed_keys then.now contents.now.records) }
     ensures noted { AreRecordsFrom None then.now.records }
 {
-    let noted = then.records.as_slice();
+    let _ = then.records.image_len();
     Ok(NameLists {
         removed: rows_gone(alloc, then, &contents.rows, then.rows.as_slice())?,
         changed: changed_rows(alloc, then, &contents.rows)?,
-        removed_keys: keys_gone(alloc, then, &contents.records, noted)?,
+        removed_keys: keys_gone(alloc, then, &contents.records, &then.records)?,
         changed_keys: changed_keys(alloc, then, &contents.records)?,
     })
 }

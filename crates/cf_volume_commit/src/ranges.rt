@@ -47,7 +47,7 @@ pub(crate) fn has_an_image(contents: &Contents)
     ensures keys_rise { AreRecordsFrom None contents.now.records }
 {
     let _ = contents.rows.image_len();
-    let _ = contents.records.as_slice();
+    let _ = contents.records.image_len();
     header_fits(
         contents.last,
         contents.count,
@@ -64,5 +64,5 @@ pub(crate) fn stands_in_order(then: &Earlier)
 {
     fits_8(then.next.0);
     let _ = then.rows.as_slice();
-    let _ = then.records.as_slice();
+    let _ = then.records.image_len();
 }

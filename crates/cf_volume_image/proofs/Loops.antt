@@ -16,6 +16,11 @@ put_step {A} f xs i x out new all h is puts so =
     ∙ append_assoc out (f x) (flat_map f (drop (i + 1) xs))
     ∙ ap (λ (l : List A). out ++ flat_map f l) (sym (drop_at xs i x h is)) ∙ so
 
+-- the same of the first of those that are left
+pub put_first : {A : Type 0} (f : A → List ℕ) (left rest : List A) (x : A) (out new all : List ℕ) → left ≡ x ∷ rest → new ≡ out ++ f x → out ++ flat_map f left ≡ all → new ++ flat_map f rest ≡ all
+put_first {A} f left rest x out new all is puts so =
+    ap (λ (o : List ℕ). o ++ flat_map f rest) puts ∙ append_assoc out (f x) (flat_map f rest) ∙ ap (λ (l : List A). out ++ flat_map f l) (sym is) ∙ so
+
 pub drop_get : {A : Type 0} (xs : List A) (i : ℕ) (d : A) → i < length xs → drop i xs ≡ get_or xs i d ∷ drop (i + 1) xs
 drop_get {A} xs i d h = let next : suc i ≡ i + 1 = omega arith in drop-cons xs i d h ∙ ap (λ (n : ℕ). get_or xs i d ∷ drop n xs) next
 

@@ -1,5 +1,5 @@
 -- The rows and records that a payload has of those that are named.
-use Rattle.std.proofs.Common.{◌≡◌, ℕ, ◌+◌, ◌<◌, List, [], ◌∷◌, ◌++◌, length, get_or, refl, sym, ap, subst, ◌∙◌, append_assoc, append-nil, arith, cond, eqb, inl, inr, Option, Some, None}
+use Rattle.std.proofs.Common.{◌≡◌, ℕ, ◌+◌, List, [], ◌∷◌, ◌++◌, length, refl, sym, ap, subst, ◌∙◌, append_assoc, append-nil, arith, cond, eqb, inl, inr, Option, Some, None}
 use Rattle.std.specs.Prelude.{All, map}
 use Rattle.std.specs.List.{flat_map}
 use Rattle.std.proofs.lemmas.Bool.{cases_Bool}
@@ -102,10 +102,3 @@ first_spellable rows rest r is all = (All-head HasRoom r rest (subst (λ (l : Li
 
 pub rest_has_room : (rows rest : List TableRow) (r : TableRow) → rows ≡ r ∷ rest → All HasRoom rows → All HasRoom rest
 rest_has_room rows rest r is all = All-tail HasRoom r rest (subst (λ (l : List TableRow). All HasRoom l) is all)
-
--- a record that is copied is short
-
-pub short_copy : (records : List AuxRecord) (i : ℕ) (r copy : AuxRecord) → All IsShort records → i < length records → r ≡ get_or records i r → copy ≡ r → IsShort copy
-short_copy records i r copy all lt is copied =
-    let here : IsShort r = subst (λ (y : AuxRecord). IsShort y) (sym is) (all i r lt) in
-    subst (λ (y : AuxRecord). IsShort y) (sym copied) here

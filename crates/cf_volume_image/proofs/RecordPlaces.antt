@@ -1,36 +1,31 @@
 -- Auxiliary records in order of key: where one stands, and what it means to put one in or to take one out.
-use Rattle.std.proofs.Common.{◌≡◌, ℕ, zero, suc, ◌+◌, ◌-◌, ◌*◌, ◌<◌, ◌≤◌, Bool, true, false, not, List, [], ◌∷◌, length, drop, get_or, set, refl, sym, ap, subst, ◌∙◌, arith, Option, Some, None, inl, inr}
-use Rattle.std.specs.Prelude.{find, insert, remove}
-use Rattle.std.specs.List.Sorted.{IsPartitionedBy, IsPartitionPoint}
-use Rattle.std.proofs.lemmas.Bool.{cases_lt}
+use Rattle.std.proofs.Common.{◌≡◌, ℕ, zero, suc, ◌+◌, ◌-◌, ◌*◌, ◌<◌, ◌≤◌, Bool, true, false, not, cond, List, [], ◌∷◌, ◌++◌, length, drop, get_or, set, refl, sym, ap, subst, ◌∙◌, arith, Option, Some, None, inl, inr}
+use Rattle.std.specs.Prelude.{find, insert, is_some, option_map, remove}
 use Rattle.cf_base.specs.declared.answers.AuxRecord.{AuxRecord}
+use Rattle.cf_collections.specs.Split.{IsSplit, NonePass, behind, front, rest}
+use Rattle.cf_collections.proofs.Splits.{front_within, inserted_there, none_there, removed_there, set_front, some_there}
 use Rattle.cf_model.specs.Formats.{with_record, without_record}
 use Rattle.cf_model.specs.Images.{aux_len}
 use Rattle.cf_model.specs.Words.{comes_before, put_in, same}
 use Rattle.cf_volume_image.specs.Contents.{record_at}
-use Rattle.cf_volume_image.specs.RecordLists.{AreKept, IsPlaceOf, IsRecordAt, IsRecordGap, IsShort, comes_after, records_len, stands_before}
+use Rattle.cf_volume_image.specs.RecordLists.{AreKept, IsShort, comes_after, records_len, stands_before}
 use Rattle.cf_volume_image.specs.Spelled.{AreRecordsFrom, IsAfter}
 use Rattle.cf_table.proofs.NamedEntries.{same_is}
 use Rattle.cf_volume_image.proofs.Loops.{drop_at}
 use Rattle.cf_volume_image.proofs.Keys.{after_not_same, before_not_same, else_before, goes_on_before, not_back}
 
--- the same by cases on the list
+-- p records pass the test, and the one there, if one is, fails it
 abbrev pub Splits : (AuxRecord → Bool) → List AuxRecord → ℕ → Type 0
 Splits test [] p = p ≡ 0
 Splits test (x ∷ xs) zero = test x ≡ false
 Splits test (x ∷ xs) (suc p) = (test x ≡ true) × Splits test xs p
 
-pub splits_at : (test : AuxRecord → Bool) (rs : List AuxRecord) (p : ℕ) → IsPlaceOf test rs p → Splits test rs p
-splits_at test [] p h = omega (arith, h.in_range)
-splits_at test (x ∷ xs) zero h = h.from 0 x (omega arith) (omega arith)
-splits_at test (x ∷ xs) (suc p) h = (
-  h.before 0 x (omega arith),
-  splits_at test xs p (record {
-    in_range = omega (arith, h.in_range);
-    before = λ k d lt. h.before (suc k) d (omega (arith, lt));
-    from = λ k d le lt. h.from (suc k) d (omega (arith, le)) (omega (arith, lt));
-  }),
-)
+pub splits_front : (test : AuxRecord → Bool) (rs : List AuxRecord) → Splits test rs (length (front test rs))
+splits_front test [] = refl
+splits_front test (x ∷ xs) = by (splits_front test xs) (test x) refl where
+  by : Splits test xs (length (front test xs)) → (b : Bool) → test x ≡ b → Splits test (x ∷ xs) (length (cond b (x ∷ front test xs) []))
+  by more true e = (e, more)
+  by more false e = e
 
 -- order
 
@@ -53,41 +48,38 @@ goes_first : (r : AuxRecord) (rs : List AuxRecord) → AreRecordsFrom (Some r.ke
 goes_first r [] h = refl
 goes_first r (x ∷ xs) h = rw (not_back r.key x.key h.0.0.1) refl
 
-later : (k : List ℕ) (rs : List AuxRecord) (j : ℕ) (d : AuxRecord) → AreRecordsFrom (Some k) rs → j < length rs → comes_before k (get_or rs j d).key ≡ true
-later k [] j d h lt = absurd (omega arith)
-later k (x ∷ xs) zero d h lt = h.0.0.1
-later k (x ∷ xs) (suc j) d h lt = goes_on_before k x.key (get_or xs j d).key h.0.0.1 (later x.key xs j d h.1 (omega arith))
-
-rise : (before : Option (List ℕ)) (rs : List AuxRecord) (i j : ℕ) (d : AuxRecord) → AreRecordsFrom before rs → i < j → j < length rs → comes_before (get_or rs i d).key (get_or rs j d).key ≡ true
-rise before [] i j d h lt le = absurd (omega arith)
-rise before (x ∷ xs) i zero d h lt le = absurd (omega arith)
-rise before (x ∷ xs) zero (suc j) d h lt le = later x.key xs j d h.1 (omega arith)
-rise before (x ∷ xs) (suc i) (suc j) d h lt le = rise (Some x.key) xs i j d h.1 (omega arith) (omega arith)
-
-pub parted_before : (key : List ℕ) (rs : List AuxRecord) → AreRecordsFrom None rs → IsPartitionedBy (stands_before key) rs
-parted_before key rs h i j d le lt at = elim (cases_lt i j) [
-  | inl less ↦ goes_on_before (get_or rs i d).key (get_or rs j d).key key (rise None rs i j d h less lt) at
-  | inr more ↦ let e : i ≡ j = omega arith in ap (λ k. stands_before key (get_or rs k d)) e ∙ at
-]
-
-not_both : (a b : Bool) → (a ≡ true → b ≡ true) → not b ≡ true → not a ≡ true
-not_both true b h k = ap not (sym (h refl)) ∙ k
-not_both false b h k = refl
-
-pub parted_after : (key : List ℕ) (rs : List AuxRecord) → AreRecordsFrom None rs → IsPartitionedBy (λ r. not (comes_after key r)) rs
-parted_after key rs h i j d le lt at = elim (cases_lt i j) [
-  | inl less ↦ not_both (comes_after key (get_or rs i d)) (comes_after key (get_or rs j d)) (λ b. goes_on_before key (get_or rs i d).key (get_or rs j d).key b (rise None rs i j d h less lt)) at
-  | inr more ↦ let e : i ≡ j = omega arith in ap (λ k. not (comes_after key (get_or rs k d))) e ∙ at
-]
-
-pub place_is : (test : AuxRecord → Bool) (rs : List AuxRecord) (n : ℕ) → n ≤ length rs → IsPartitionPoint (λ r. test r ≡ true) (λ r. test r ≡ false) rs n → IsPlaceOf test rs n
-place_is test rs n le h = record { in_range = le; before = λ k d lt. h.0 k d (omega arith) lt; from = λ k d ge lt. h.1 k d ge lt }
-
--- look-ups
+-- where a key divides them
 
 not_not : (b : Bool) → not b ≡ false → b ≡ true
 not_not true h = refl
 not_not false h = sym h
+
+none_stands : (key low : List ℕ) (rs : List AuxRecord) → comes_before low key ≡ false → AreRecordsFrom (Some low) rs → NonePass (stands_before key) rs
+none_stands key low [] miss h = tt
+none_stands key low (r ∷ rs) miss h = let here = by (comes_before r.key key) refl in (here, none_stands key r.key rs here h.1) where
+  by : (b : Bool) → comes_before r.key key ≡ b → comes_before r.key key ≡ false
+  by true hit = let z : false ≡ true = sym miss ∙ goes_on_before low r.key key h.0.0.1 hit in cc
+  by false e = e
+
+split_from : (key : List ℕ) (before : Option (List ℕ)) (rs : List AuxRecord) → AreRecordsFrom before rs → IsSplit (stands_before key) rs
+split_from key before [] h = tt
+split_from key before (r ∷ rs) h = ((λ miss. none_stands key r.key rs miss h.1), split_from key (Some r.key) rs h.1)
+
+pub split : (key : List ℕ) (rs : List AuxRecord) → AreRecordsFrom None rs → IsSplit (stands_before key) rs
+split key rs h = split_from key None rs h
+
+all_after : (key low : List ℕ) (rs : List AuxRecord) → comes_before key low ≡ true → AreRecordsFrom (Some low) rs → NonePass (λ r. not (comes_after key r)) rs
+all_after key low [] hit h = tt
+all_after key low (r ∷ rs) hit h = let here = goes_on_before key low r.key hit h.0.0.1 in (ap not here, all_after key r.key rs here h.1)
+
+split_after_from : (key : List ℕ) (before : Option (List ℕ)) (rs : List AuxRecord) → AreRecordsFrom before rs → IsSplit (λ r. not (comes_after key r)) rs
+split_after_from key before [] h = tt
+split_after_from key before (r ∷ rs) h = ((λ miss. all_after key r.key rs (not_not (comes_before key r.key) miss) h.1), split_after_from key (Some r.key) rs h.1)
+
+pub split_after : (key : List ℕ) (rs : List AuxRecord) → AreRecordsFrom None rs → IsSplit (λ r. not (comes_after key r)) rs
+split_after key rs h = split_after_from key None rs h
+
+-- look-ups
 
 not_true : (b : Bool) → not b ≡ true → b ≡ false
 not_true true h = sym h
@@ -204,47 +196,167 @@ short_at before (x ∷ xs) (suc p) d h lt = short_at (Some x.key) xs p d h.1 (om
 pub short_here : (rs : List AuxRecord) (p : ℕ) (r : AuxRecord) → AreRecordsFrom None rs → p < length rs → r ≡ get_or rs p r → IsShort r
 short_here rs p r h lt is = subst (λ (x : AuxRecord). IsShort x) (sym is) (short_at None rs p r h lt)
 
--- one record is no longer than all
-pub len_here : (rs : List AuxRecord) (p n : ℕ) (r : AuxRecord) → AreKept rs n → p < length rs → r ≡ get_or rs p r → aux_len r ≤ n
-len_here rs p n r kept lt is = omega (arith, kept.len, ap aux_len is, len_at rs p r lt)
-
 pub len_drop : (rs : List AuxRecord) (p : ℕ) (r : AuxRecord) → p < length rs → r ≡ get_or rs p r → records_len (drop p rs) ≡ aux_len r + records_len (drop (p + 1) rs)
 len_drop rs p r lt is = ap records_len (drop_at rs p r lt is)
 
--- in the words of the code
+-- the record with a key, where the code looks
 
-pub found_at : (key : List ℕ) (rs : List AuxRecord) (p : ℕ) (r : AuxRecord) → IsRecordAt key rs p → r ≡ get_or rs p r → Some r ≡ record_at rs key
-found_at key rs p r at is = ap Some is ∙ sym (found key rs p r (splits_at (stands_before key) rs p at.place) at.in_range (at.has_key r))
+-- it stands there
+pub record Stands (key : List ℕ) (rs : List AuxRecord) (x : AuxRecord) : Type 0 where
+  pub in_range : length (front (stands_before key) rs) < length rs
+  pub item : (d : AuxRecord) → get_or rs (length (front (stands_before key) rs)) d ≡ x
+  pub has_key : same x.key key ≡ true
 
-pub found_nowhere : (key : List ℕ) (rs : List AuxRecord) (p : ℕ) (d : AuxRecord) → AreRecordsFrom None rs → IsRecordGap key rs p → None ≡ record_at rs key
-found_nowhere key rs p d rise gap = sym (missing key None rs p d rise (splits_at (stands_before key) rs p gap.place) (gap.other d))
+some_same : (a b : AuxRecord) → ◌≡◌ {A = Option AuxRecord} (Some a) (Some b) → a ≡ b
+some_same a b e = cc
 
-pub put_at : (aux : AuxRecord) (rs : List AuxRecord) (p : ℕ) → AreRecordsFrom None rs → IsRecordAt aux.key rs p → set rs p aux ≡ with_record aux rs
-put_at aux rs p rise at = sym (put_found aux None rs p aux rise (splits_at (stands_before aux.key) rs p at.place) at.in_range (at.has_key aux))
+module _ (key : List ℕ) (rs : List AuxRecord) (rise : AreRecordsFrom None rs) where
+  nowhere : behind (stands_before key) rs ≡ [] → record_at rs key ≡ None
+  nowhere none = missing key None rs (length (front (stands_before key) rs)) (record { key = []; value = [] }) rise (splits_front (stands_before key) rs) (λ lt. absurd (omega (arith, lt, none_there (stands_before key) rs none)))
 
-pub put_between : (aux : AuxRecord) (rs : List AuxRecord) (p : ℕ) → AreRecordsFrom None rs → IsRecordGap aux.key rs p → insert rs p aux ≡ with_record aux rs
-put_between aux rs p rise gap = sym (put_missing aux None rs p aux rise (splits_at (stands_before aux.key) rs p gap.place) (gap.other aux))
+  at_place : (x : AuxRecord) (l : List AuxRecord) → behind (stands_before key) rs ≡ x ∷ l → record_at rs key ≡ cond (same x.key key) (Some x) None
+  at_place x l here = by (same x.key key) refl where
+    in_range : length (front (stands_before key) rs) < length rs
+    in_range = (some_there (stands_before key) rs l x x here).0
 
-pub removed_at : (key : List ℕ) (rs : List AuxRecord) (p : ℕ) (d : AuxRecord) → AreRecordsFrom None rs → IsRecordAt key rs p → remove rs p ≡ without_record key rs
-removed_at key rs p d rise at = remove_found key None rs p d rise (splits_at (stands_before key) rs p at.place) at.in_range (at.has_key d)
+    is : get_or rs (length (front (stands_before key) rs)) x ≡ x
+    is = (some_there (stands_before key) rs l x x here).1
 
-pub removed_nowhere : (key : List ℕ) (rs : List AuxRecord) (p : ℕ) (d : AuxRecord) → AreRecordsFrom None rs → IsRecordGap key rs p → rs ≡ without_record key rs
-removed_nowhere key rs p d rise gap = sym (remove_missing key None rs p d rise (splits_at (stands_before key) rs p gap.place) (gap.other d))
+    by : (b : Bool) → same x.key key ≡ b → record_at rs key ≡ cond b (Some x) None
+    by true hit = found key rs (length (front (stands_before key) rs)) x (splits_front (stands_before key) rs) in_range (ap (λ (r : AuxRecord). same r.key key) is ∙ hit) ∙ ap Some is
+    by false miss = missing key None rs (length (front (stands_before key) rs)) x rise (splits_front (stands_before key) rs) (λ lt. ap (λ (r : AuxRecord). same r.key key) is ∙ miss)
 
-pub kept_set : (rs : List AuxRecord) (p n less more : ℕ) (aux d : AuxRecord) → AreKept rs n → IsRecordAt aux.key rs p → IsShort aux → less ≡ aux_len (get_or rs p d) → more ≡ aux_len aux → AreKept (set rs p aux) (n - less + more)
-kept_set rs p n less more aux d kept at short l m = record {
-  rise = set_rises None rs p aux aux kept.rise at.in_range (at.has_key aux) short;
-  len = omega (arith, kept.len, l, m, set_len rs p d aux at.in_range, len_at rs p d at.in_range);
-}
+  pub found_there : (left l : List AuxRecord) (x : AuxRecord) (o : Option AuxRecord) → left ≡ behind (stands_before key) rs → left ≡ x ∷ l → o ≡ cond (same x.key key) (Some x) None → o ≡ record_at rs key
+  found_there left l x o is here named = named ∙ sym (at_place x l (sym is ∙ here))
 
-pub kept_insert : (rs : List AuxRecord) (p n more : ℕ) (aux : AuxRecord) → AreKept rs n → IsRecordGap aux.key rs p → IsShort aux → more ≡ aux_len aux → AreKept (insert rs p aux) (n + more)
-kept_insert rs p n more aux kept gap short m = record {
-  rise = insert_rises None rs p aux aux kept.rise tt (splits_at (stands_before aux.key) rs p gap.place) (gap.other aux) short;
-  len = omega (arith, kept.len, m, insert_len rs p aux gap.place.in_range);
-}
+  pub none_found : (left : List AuxRecord) → left ≡ behind (stands_before key) rs → left ≡ [] → None ≡ record_at rs key
+  none_found left is none = sym (nowhere (sym is ∙ none))
 
-pub kept_remove : (rs : List AuxRecord) (p n less : ℕ) (d : AuxRecord) → AreKept rs n → p < length rs → less ≡ aux_len (get_or rs p d) → AreKept (remove rs p) (n - less)
-kept_remove rs p n less d kept lt l = record {
-  rise = remove_rises None rs p kept.rise lt;
-  len = omega (arith, kept.len, l, remove_len rs p d lt);
-}
+  stands : (x : AuxRecord) → record_at rs key ≡ Some x → Stands key rs x
+  stands x e = by (behind (stands_before key) rs) refl where
+    at : (y : AuxRecord) (l : List AuxRecord) → behind (stands_before key) rs ≡ y ∷ l → (b : Bool) → same y.key key ≡ b → cond b (Some y) None ≡ Some x → Stands key rs x
+    at y l here true hit k =
+        let same_one : y ≡ x = some_same y x k in
+        record {
+          in_range = (some_there (stands_before key) rs l y y here).0;
+          item = λ d. (some_there (stands_before key) rs l y d here).1 ∙ same_one;
+          has_key = ap (λ (r : AuxRecord). same r.key key) (sym same_one) ∙ hit;
+        }
+    at y l here false miss k = let z : None ≡ Some x = k in absurd cc
+
+    by : (l : List AuxRecord) → behind (stands_before key) rs ≡ l → Stands key rs x
+    by [] none = let z : None ≡ Some x = sym (nowhere none) ∙ e in absurd cc
+    by (y ∷ l) here = at y l here (same y.key key) refl (sym (at_place y l here) ∙ e)
+
+  gap : (d : AuxRecord) → record_at rs key ≡ None → length (front (stands_before key) rs) < length rs → same (get_or rs (length (front (stands_before key) rs)) d).key key ≡ false
+  gap d e lt = by (same (get_or rs (length (front (stands_before key) rs)) d).key key) refl where
+    by : (b : Bool) → same (get_or rs (length (front (stands_before key) rs)) d).key key ≡ b → same (get_or rs (length (front (stands_before key) rs)) d).key key ≡ false
+    by true hit = let z : None ≡ Some (get_or rs (length (front (stands_before key) rs)) d) = sym e ∙ found key rs (length (front (stands_before key) rs)) d (splits_front (stands_before key) rs) lt hit in absurd cc
+    by false miss = miss
+
+pub found_after : (key : List ℕ) (rs left l : List AuxRecord) (x : AuxRecord) → left ≡ behind (λ r. not (comes_after key r)) rs → left ≡ x ∷ l → Some x ≡ find (comes_after key) rs
+found_after key rs left l x is here =
+    let at = some_there (λ r. not (comes_after key r)) rs l x x (sym is ∙ here) in
+    ap Some (sym at.1) ∙ after_found key rs (length (front (λ r. not (comes_after key r)) rs)) x (splits_front (λ r. not (comes_after key r)) rs) at.0
+
+pub none_after_it : (key : List ℕ) (rs left : List AuxRecord) → left ≡ behind (λ r. not (comes_after key r)) rs → left ≡ [] → None ≡ find (comes_after key) rs
+none_after_it key rs left is none =
+    none_behind key rs (length (front (λ r. not (comes_after key r)) rs)) (splits_front (λ r. not (comes_after key r)) rs) (omega (arith, none_there (λ r. not (comes_after key r)) rs (sym is ∙ none)))
+
+-- what becomes of the records and of their length
+
+some_is : (o : Option AuxRecord) → is_some o ≡ true → (x : AuxRecord) × (o ≡ Some x)
+some_is (Some x) h = (x, refl)
+some_is None h = let z : false ≡ true = h in absurd cc
+
+none_is : (o : Option AuxRecord) → is_some o ≡ false → o ≡ None
+none_is (Some x) h = let z : true ≡ false = h in absurd cc
+none_is None h = refl
+
+pub len_some : (o : Option AuxRecord) (n : ℕ) → Some n ≡ option_map aux_len o → is_some o ≡ true
+len_some (Some x) n h = refl
+len_some None n h = let z : ◌≡◌ {A = Option ℕ} (Some n) None = h in absurd cc
+
+pub len_none : (o : Option AuxRecord) → None ≡ option_map aux_len o → is_some o ≡ false
+len_none (Some x) h = let z : ◌≡◌ {A = Option ℕ} None (Some (aux_len x)) = h in absurd cc
+len_none None h = refl
+
+len_is : (o : Option AuxRecord) (n : ℕ) → Some n ≡ option_map aux_len o → (x : AuxRecord) × (o ≡ Some x) × (n ≡ aux_len x)
+len_is (Some x) n h = (x, refl, (let z : ◌≡◌ {A = Option ℕ} (Some n) (Some (aux_len x)) = h in cc))
+len_is None n h = let z : ◌≡◌ {A = Option ℕ} (Some n) None = h in absurd cc
+
+pub len_found : (o : Option AuxRecord) (x : AuxRecord) (n : ℕ) → Some x ≡ o → n ≡ aux_len x → Some n ≡ option_map aux_len o
+len_found o x n here len = ap Some len ∙ ap (option_map aux_len) here
+
+module _ (key : List ℕ) (rs : List AuxRecord) (rise : AreRecordsFrom None rs) where
+  pub some_behind : is_some (record_at rs key) ≡ true → 0 < length (behind (stands_before key) rs)
+  some_behind h = by (behind (stands_before key) rs) refl where
+    by : (l : List AuxRecord) → behind (stands_before key) rs ≡ l → 0 < length l
+    by [] none = let z : false ≡ true = sym (ap is_some (nowhere key rs rise none)) ∙ h in absurd cc
+    by (x ∷ l) here = omega arith
+
+  found_at : (x : AuxRecord) → Stands key rs x → (d : AuxRecord) → same (get_or rs (length (front (stands_before key) rs)) d).key key ≡ true
+  found_at x s d = ap (λ (r : AuxRecord). same r.key key) (s.item d) ∙ s.has_key
+
+  removed_is : (x : AuxRecord) → Stands key rs x → remove rs (length (front (stands_before key) rs)) ≡ without_record key rs
+  removed_is x s = remove_found key None rs (length (front (stands_before key) rs)) x rise (splits_front (stands_before key) rs) s.in_range (found_at x s x)
+
+  pub remove_there : (new : List AuxRecord) → is_some (record_at rs key) ≡ true → new ≡ front (stands_before key) rs ++ rest (behind (stands_before key) rs) → new ≡ without_record key rs
+  remove_there new h is =
+      let x = some_is (record_at rs key) h in
+      is ∙ sym (removed_there (stands_before key) rs rs (remove rs (length (front (stands_before key) rs))) (length (front (stands_before key) rs)) refl refl refl) ∙ removed_is x.0 (stands key rs rise x.0 x.1)
+
+  pub remove_nowhere : is_some (record_at rs key) ≡ false → rs ≡ without_record key rs
+  remove_nowhere h =
+      let d : AuxRecord = record { key = []; value = [] } in
+      sym (remove_missing key None rs (length (front (stands_before key) rs)) d rise (splits_front (stands_before key) rs) (gap key rs rise d (none_is (record_at rs key) h)))
+
+  pub less_there : (n less : ℕ) → n ≡ records_len rs → Some less ≡ option_map aux_len (record_at rs key) → less ≤ n
+  less_there n less len h =
+      let x = len_is (record_at rs key) less h in
+      let s : Stands key rs x.0 = stands key rs rise x.0 x.1 in
+      omega (arith, len, x.2, ap aux_len (s.item x.0), len_at rs (length (front (stands_before key) rs)) x.0 s.in_range)
+
+  pub kept_without : (n less : ℕ) → n ≡ records_len rs → Some less ≡ option_map aux_len (record_at rs key) → AreKept (without_record key rs) (n - less)
+  kept_without n less len h =
+      let x = len_is (record_at rs key) less h in
+      let s : Stands key rs x.0 = stands key rs rise x.0 x.1 in
+      subst (λ (l : List AuxRecord). AreKept l (n - less)) (removed_is x.0 s) (record {
+        rise = remove_rises None rs (length (front (stands_before key) rs)) rise s.in_range;
+        len = omega (arith, len, x.2, ap aux_len (s.item x.0), remove_len rs (length (front (stands_before key) rs)) x.0 s.in_range);
+      })
+
+module _ (aux : AuxRecord) (rs : List AuxRecord) (rise : AreRecordsFrom None rs) where
+  set_is : (x : AuxRecord) → Stands aux.key rs x → set rs (length (front (stands_before aux.key) rs)) aux ≡ with_record aux rs
+  set_is x s = sym (put_found aux None rs (length (front (stands_before aux.key) rs)) x rise (splits_front (stands_before aux.key) rs) s.in_range (found_at aux.key rs rise x s x))
+
+  insert_is : record_at rs aux.key ≡ None → insert rs (length (front (stands_before aux.key) rs)) aux ≡ with_record aux rs
+  insert_is none = sym (put_missing aux None rs (length (front (stands_before aux.key) rs)) aux rise (splits_front (stands_before aux.key) rs) (gap aux.key rs rise aux none))
+
+  pub put_there : (new : List AuxRecord) → is_some (record_at rs aux.key) ≡ true → new ≡ front (stands_before aux.key) rs ++ aux ∷ rest (behind (stands_before aux.key) rs) → new ≡ with_record aux rs
+  put_there new h is =
+      let x = some_is (record_at rs aux.key) h in
+      let s : Stands aux.key rs x.0 = stands aux.key rs rise x.0 x.1 in
+      is ∙ sym (set_front (stands_before aux.key) rs aux s.in_range) ∙ set_is x.0 s
+
+  pub put_between : (new : List AuxRecord) → is_some (record_at rs aux.key) ≡ false → new ≡ front (stands_before aux.key) rs ++ aux ∷ behind (stands_before aux.key) rs → new ≡ with_record aux rs
+  put_between new h is =
+      is ∙ sym (inserted_there (stands_before aux.key) rs rs (insert rs (length (front (stands_before aux.key) rs)) aux) (length (front (stands_before aux.key) rs)) aux refl refl refl)
+      ∙ insert_is (none_is (record_at rs aux.key) h)
+
+  pub kept_replaced : (n less : ℕ) → IsShort aux → (m : ℕ) × AreKept rs m × (n ≡ m + aux_len aux) → Some less ≡ option_map aux_len (record_at rs aux.key) → AreKept (with_record aux rs) (n - less)
+  kept_replaced n less short longer h =
+      let x = len_is (record_at rs aux.key) less h in
+      let s : Stands aux.key rs x.0 = stands aux.key rs rise x.0 x.1 in
+      subst (λ (l : List AuxRecord). AreKept l (n - less)) (set_is x.0 s) (record {
+        rise = set_rises None rs (length (front (stands_before aux.key) rs)) x.0 aux rise s.in_range (found_at aux.key rs rise x.0 s x.0) short;
+        len = omega (arith, longer.1.len, longer.2, x.2, ap aux_len (s.item x.0), set_len rs (length (front (stands_before aux.key) rs)) x.0 aux s.in_range, len_at rs (length (front (stands_before aux.key) rs)) x.0 s.in_range);
+      })
+
+  pub kept_added : (n : ℕ) → IsShort aux → (m : ℕ) × AreKept rs m × (n ≡ m + aux_len aux) → None ≡ option_map aux_len (record_at rs aux.key) → AreKept (with_record aux rs) n
+  kept_added n short longer h =
+      let none : record_at rs aux.key ≡ None = none_is (record_at rs aux.key) (len_none (record_at rs aux.key) h) in
+      subst (λ (l : List AuxRecord). AreKept l n) (insert_is none) (record {
+        rise = insert_rises None rs (length (front (stands_before aux.key) rs)) aux aux rise tt (splits_front (stands_before aux.key) rs) (gap aux.key rs rise aux none) short;
+        len = omega (arith, longer.1.len, longer.2, insert_len rs (length (front (stands_before aux.key) rs)) aux (front_within (stands_before aux.key) rs));
+      })

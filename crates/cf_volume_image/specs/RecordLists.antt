@@ -1,11 +1,11 @@
 -- Auxiliary records in order of key, and how long their spelling is.
-use Rattle.std.specs.Prelude.{ℕ, Bool, true, false, List, [], length, Option, Some, None, get_or, ◌+◌, ◌^◌, ◌≤◌, ◌<◌, ◌≡◌, ◌∷◌}
+use Rattle.std.specs.Prelude.{ℕ, Bool, List, [], length, Option, Some, None, ◌+◌, ◌^◌, ◌<◌, ◌≡◌, ◌∷◌}
 use Rattle.std.specs.List.{flat_map}
 use Rattle.cf_base.specs.declared.answers.AuxRecord.{AuxRecord}
 use Rattle.cf_volume_image.specs.Spelled.{AreRecordsFrom}
 use Rattle.cf_model.specs.Formats.{spell_record}
 use Rattle.cf_model.specs.Images.{aux_len}
-use Rattle.cf_model.specs.Words.{comes_before, same}
+use Rattle.cf_model.specs.Words.{comes_before}
 
 -- a key of up to 255 bytes, and a value of up to 65,535
 abbrev pub IsShort : AuxRecord → Type 0
@@ -26,23 +26,6 @@ stands_before key r = comes_before r.key key
 
 abbrev pub comes_after : List ℕ → AuxRecord → Bool
 comes_after key r = comes_before key r.key
-
--- n records pass the test, and none from there on
-pub record IsPlaceOf (test : AuxRecord → Bool) (records : List AuxRecord) (n : ℕ) : Type 0 where
-  pub in_range : n ≤ length records
-  pub before : (k : ℕ) (d : AuxRecord) → k < n → test (get_or records k d) ≡ true
-  pub from : (k : ℕ) (d : AuxRecord) → n ≤ k → k < length records → test (get_or records k d) ≡ false
-
--- the record at place n has the key
-pub record IsRecordAt (key : List ℕ) (records : List AuxRecord) (n : ℕ) : Type 0 where
-  pub in_range : n < length records
-  pub place : IsPlaceOf (stands_before key) records n
-  pub has_key : (d : AuxRecord) → same (get_or records n d).key key ≡ true
-
--- no record has the key, which would go at place n
-pub record IsRecordGap (key : List ℕ) (records : List AuxRecord) (n : ℕ) : Type 0 where
-  pub place : IsPlaceOf (stands_before key) records n
-  pub other : (d : AuxRecord) → n < length records → same (get_or records n d).key key ≡ false
 
 -- as they are read
 

@@ -34,7 +34,7 @@ pub fn spell_image(alloc: Global, contents: &Contents) -> Result<Blob, OutOfMemo
     out.put_u8(FORMAT)?;
     put_header(&mut out, contents)?;
     out.put_bytes(rows.as_slice())?;
-    put_records(&mut out, contents.records.as_slice())?;
+    put_records(&mut out, &contents.records)?;
     Ok(out.into_blob())
 }
 

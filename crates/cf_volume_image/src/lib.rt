@@ -23,6 +23,7 @@ mod payload_reads;
 mod payloads;
 mod record_lists;
 mod record_numbers;
+mod record_places;
 mod records;
 mod sets;
 mod sound;

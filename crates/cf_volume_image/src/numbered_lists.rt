@@ -11,7 +11,7 @@ use crate::number_places::{NO_NUMBERS, Numbers, is_numbered, numbers_of};
 use crate::record_lists::{find_record, put_record, remove_record};
 use crate::record_numbers::RecordNumbers;
 use cf_base::{AuxRecord, OutOfMemory};
-use cf_collections::SpareList;
+use cf_collections::ChunkedList;
 use std::alloc::Global;
 
 /// The numbers of the records of a list.
@@ -33,7 +33,7 @@ pub(crate) fn numbers_of_all(
 }
 
 // The numbers of the record with the key. A record of another kind is not looked for.
-fn numbers_at(records: &[AuxRecord], key: &[u8]) -> Numbers
+fn numbers_at(records: &ChunkedList<AuxRecord>, key: &[u8]) -> Numbers
     requires { AreRecordsFrom None records.now }
     ensures { AreNumbersOf (record_at records.now key.now) result }
 {
@@ -49,7 +49,7 @@ fn numbers_at(records: &[AuxRecord], key: &[u8]) -> Numbers
 /// Puts the record in place of the one with its key, or adds it. `len` is how many bytes spell the records, and what is
 /// given is how many do then. Without memory nothing changes.
 pub(crate) fn put_numbered(
-    records: &mut SpareList<AuxRecord>,
+    records: &mut ChunkedList<AuxRecord>,
     numbers: &mut RecordNumbers,
     aux: AuxRecord,
     len: u128,
@@ -63,7 +63,7 @@ pub(crate) fn put_numbered(
     ensures err { OnErr result (records.new ≡ records.old) }
 {
     let more = numbers_of(&aux);
-    let gone = numbers_at(records.as_slice(), aux.key.as_slice());
+    let gone = numbers_at(records, aux.key.as_slice());
     let added = numbers.add(more);
     if let Err(memory) = added {
         drop(aux);
@@ -83,7 +83,7 @@ pub(crate) fn put_numbered(
 
 /// Takes the record with the key out, if there is one. Gives how many bytes spell the records then.
 pub(crate) fn remove_numbered(
-    records: &mut SpareList<AuxRecord>,
+    records: &mut ChunkedList<AuxRecord>,
     numbers: &mut RecordNumbers,
     key: &[u8],
     len: u128,
@@ -94,7 +94,7 @@ pub(crate) fn remove_numbered(
     ensures counted { AreCounted records.new numbers.new }
     ensures removes { records.new ≡ without_record key.now records.old }
 {
-    let gone = numbers_at(records.as_slice(), key);
+    let gone = numbers_at(records, key);
     numbers.take(gone);
     remove_record(records, key, len)
 }

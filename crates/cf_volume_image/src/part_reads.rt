@@ -11,7 +11,7 @@ ghost use Rattle.cf_volume_image.specs.Faults.{AtHeader, AtId, AtIds, AtIdsFrom,
 ghost use Rattle.cf_volume_image.specs.RecordLists.{last_key_of, last_of, records_bytes};
 ghost use Rattle.cf_volume_image.specs.Spelled.{AreIds, AreIdsFrom, AreKeys, AreKeysFrom, AreRecords, AreRecordsFrom, IsAfter, IsHeaderIn, IsId, IsKey, IsRecord, ids_bytes, keys_bytes, spell_header_in};
 
-use crate::record_lists::is_before;
+use crate::record_places::is_before;
 use crate::records::AuxRecords;
 use cf_base::{AuxRecord, Blob, ItemId, OutOfMemory, Usn};
 use cf_codec::{Format, Reader};

@@ -1,13 +1,13 @@
 //! The parts of images and payloads, as they are written.
 
-ghost use Rattle.std.specs.Prelude.{◌≡◌, ◌<◌, ◌^◌, ◌++◌, None, OnOk, All, length};
+ghost use Rattle.std.specs.Prelude.{◌≡◌, ◌<◌, ◌+◌, ◌%◌, ◌^◌, ◌++◌, OnOk, length};
 ghost use Rattle.cf_model.specs.Formats.{spell_header, spell_key, spell_record, spell_records};
 ghost use Rattle.cf_model.specs.Words.{in_bytes};
 ghost use Rattle.cf_volume_image.specs.Contents.{header_of};
 ghost use Rattle.cf_volume_image.specs.RecordLists.{IsShort, records_bytes};
-ghost use Rattle.cf_volume_image.specs.Spelled.{AreRecordsFrom};
 
 use crate::contents::Contents;
+use crate::records::AuxRecords;
 use cf_base::{AuxRecord, Blob, ItemId, OutOfMemory};
 use cf_codec::Writer;
 use cf_table::plain_fields::{put_2, put_4, put_8, put_usn};
@@ -56,21 +56,46 @@ pub(crate) fn put_record(out: &mut Writer, aux: &AuxRecord) -> Result<(), OutOfM
     put_value(out, aux.value.as_slice())
 }
 
-fn put_each(out: &mut Writer, records: &[AuxRecord]) -> Result<(), OutOfMemory>
-    requires { All IsShort records.now }
+// One more, and 0 after the greatest number.
+fn next_count(count: u32) -> u32
+    ensures { result ≡ (count + 1) % 4294967296 }
+{
+    if count == u32::MAX { 0 } else { count + 1 }
+}
+
+// How many records there are, of which the last four bytes.
+fn count_of(records: &AuxRecords) -> u32
+    ensures { result ≡ length records.now % 4294967296 }
+{
+    let mut count = 0;
+    let mut items = records.iter();
+    while let Some(record) = items.next() {
+        let _ = record;
+        count = next_count(count);
+    }
+    count
+}
+
+fn put_count_of(out: &mut Writer, records: &AuxRecords) -> Result<(), OutOfMemory>
+    ensures { OnOk result (out.new ≡ out.old ++ in_bytes 4 (length records.now)) }
+{
+    put_4(out, count_of(records))
+}
+
+fn put_each(out: &mut Writer, records: &AuxRecords) -> Result<(), OutOfMemory>
     ensures { OnOk result (out.new ≡ out.old ++ records_bytes records.now) }
 {
-    for record in records {
+    let mut items = records.iter();
+    while let Some(record) = items.next() {
         put_record(out, record)?;
     }
     Ok(())
 }
 
 /// Puts how many records there are, and the records.
-pub(crate) fn put_records(out: &mut Writer, records: &[AuxRecord]) -> Result<(), OutOfMemory>
-    requires { AreRecordsFrom None records.now }
+pub(crate) fn put_records(out: &mut Writer, records: &AuxRecords) -> Result<(), OutOfMemory>
     ensures { OnOk result (out.new ≡ out.old ++ spell_records records.now) }
 {
-    put_count(out, records.len())?;
+    put_count_of(out, records)?;
     put_each(out, records)
 }

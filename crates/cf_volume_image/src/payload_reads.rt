@@ -80,11 +80,12 @@ fn copy_of(aux: &AuxRecord) -> Result<AuxRecord, OutOfMemory>
 }
 
 // Puts copies of the records in place of those with their keys, or adds them.
-fn add_records(records: &mut AuxRecords, more: &[AuxRecord]) -> Result<(), OutOfMemory>
+fn add_records(records: &mut AuxRecords, more: &AuxRecords) -> Result<(), OutOfMemory>
     requires { All IsShort more.now }
     ensures { OnOk result (records.new ≡ with_records more.now records.old) }
 {
-    for aux in more {
+    let mut items = more.iter();
+    while let Some(aux) = items.next() {
         let copy = copy_of(aux)?;
         records.put(copy)?;
     }
@@ -126,7 +127,7 @@ fn change(draft: &mut Draft, changes: Changes) -> Result<(), OutOfMemory>
     remove_records(&mut draft.records, &removed_keys);
     drop(removed_keys);
     let added = add_rows(&mut draft.rows, rows);
-    let put = add_records(&mut draft.records, records.as_slice());
+    let put = add_records(&mut draft.records, &records);
     drop(records);
     added?;
     put?;

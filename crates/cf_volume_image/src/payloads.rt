@@ -72,7 +72,7 @@ fn put_one(out: &mut Writer, records: &AuxRecords, key: &[u8]) -> Result<u32, Ou
     ensures small { IfOk result (λ n. n ≤ 1) }
 {
     // They stand in order of key.
-    let _ = records.as_slice();
+    let _ = records.image_len();
     match records.get(key) {
         None => Ok(0),
         Some(aux) => {

@@ -1,23 +1,16 @@
 //! Lists of auxiliary records in order of key.
 
-ghost use Rattle.std.specs.Prelude.{◌≡◌, ◌<◌, ◌+◌, ◌^◌, None, OnOk, OnErr, IfOk, IfErr, length, not, option_copied, find, remove};
+ghost use Rattle.std.specs.Prelude.{◌≡◌, ◌<◌, ◌+◌, ◌^◌, ℕ, None, Some, OnOk, OnErr, IfOk, cond, find, is_some, option_copied, option_map, true, false};
 ghost use Rattle.cf_model.specs.Formats.{with_record, without_record};
 ghost use Rattle.cf_model.specs.Images.{aux_len};
-ghost use Rattle.cf_model.specs.Words.{comes_before, same};
+ghost use Rattle.cf_model.specs.Words.{same};
 ghost use Rattle.cf_volume_image.specs.Contents.{record_at};
-ghost use Rattle.cf_volume_image.specs.RecordLists.{AreKept, IsPlaceOf, IsRecordAt, IsRecordGap, IsShort, comes_after, records_len, stands_before};
+ghost use Rattle.cf_volume_image.specs.RecordLists.{AreKept, IsShort, comes_after, records_len};
 ghost use Rattle.cf_volume_image.specs.Spelled.{AreRecordsFrom};
 
-use cf_base::{AuxRecord, Blob, OutOfMemory};
-use cf_collections::SpareList;
-use std::alloc::Global;
-
-/// Whether a key comes before another.
-pub(crate) fn is_before(key: &[u8], other: &[u8]) -> bool
-    ensures { result ≡ comes_before key.now other.now }
-{
-    key.cmp(other).is_lt()
-}
+use crate::record_places::{AfterKey, AtKey, ByKey};
+use cf_base::{AuxRecord, OutOfMemory, no_such_state};
+use cf_collections::ChunkedList;
 
 fn has_key(aux: &AuxRecord, key: &[u8]) -> bool
     ensures { result ≡ same aux.now.key key.now }
@@ -34,22 +27,6 @@ fn len_of(aux: &AuxRecord) -> u128
     3 + aux.key.as_slice().len() as u128 + aux.value.as_slice().len() as u128
 }
 
-// How many records come before one with the key. By a binary search.
-fn place_of(records: &[AuxRecord], key: &[u8]) -> usize
-    requires { AreRecordsFrom None records.now }
-    ensures { IsPlaceOf (stands_before key.now) records.now result }
-{
-    records.partition_point(|r| is_before(r.key.as_slice(), key))
-}
-
-// How many records do not come after the key. By a binary search.
-fn place_after(records: &[AuxRecord], key: &[u8]) -> usize
-    requires { AreRecordsFrom None records.now }
-    ensures { IsPlaceOf (λ r. not (comes_after key.now r)) records.now result }
-{
-    records.partition_point(|r| !is_before(key, r.key.as_slice()))
-}
-
 /// How many bytes spell the records.
 pub(crate) fn len_of_all(records: &[AuxRecord]) -> u128
     requires { AreRecordsFrom None records.now }
@@ -62,100 +39,119 @@ pub(crate) fn len_of_all(records: &[AuxRecord]) -> u128
     len
 }
 
-// Where the record with the key is, or where it would go.
-fn find_place(records: &[AuxRecord], key: &[u8]) -> Result<usize, usize>
-    requires { AreRecordsFrom None records.now }
-    ensures found { IfOk result (IsRecordAt key.now records.now) }
-    ensures absent { IfErr result (IsRecordGap key.now records.now) }
+fn if_named<'a>(aux: &'a AuxRecord, key: &[u8]) -> Option<&'a AuxRecord>
+    ensures { option_copied result ≡ cond (same aux.now.key key.now) (Some aux.now) None }
 {
-    let place = place_of(records, key);
-    if place == records.len() {
-        return Err(place);
-    }
-    if has_key(&records[place], key) {
-        Ok(place)
-    } else {
-        Err(place)
-    }
+    if has_key(aux, key) { Some(aux) } else { None }
 }
 
-/// The record with the key.
-pub(crate) fn find_record<'a>(records: &'a [AuxRecord], key: &[u8]) -> Option<&'a AuxRecord>
+/// The record with the key. Looks by halves.
+pub(crate) fn find_record<'a>(
+    records: &'a ChunkedList<AuxRecord>,
+    key: &[u8],
+) -> Option<&'a AuxRecord>
     requires { AreRecordsFrom None records.now }
     ensures { option_copied result ≡ record_at records.now key.now }
 {
-    match find_place(records, key) {
-        Ok(place) => Some(&records[place]),
-        Err(_) => None,
+    match records.from(&AtKey { key }).next() {
+        Some(aux) => if_named(aux, key),
+        None => None,
     }
 }
 
-/// The first record whose key comes after this one.
-pub(crate) fn find_after<'a>(records: &'a [AuxRecord], key: &[u8]) -> Option<&'a AuxRecord>
+/// The first record.
+pub(crate) fn first_of(records: &ChunkedList<AuxRecord>) -> Option<&AuxRecord>
+    ensures { option_copied result ≡ find (λ r. true) records.now }
+{
+    match records.iter().next() {
+        Some(aux) => Some(aux),
+        None => None,
+    }
+}
+
+/// The first record whose key comes after this one. Looks by halves.
+pub(crate) fn find_after<'a>(
+    records: &'a ChunkedList<AuxRecord>,
+    key: &[u8],
+) -> Option<&'a AuxRecord>
     requires { AreRecordsFrom None records.now }
     ensures { option_copied result ≡ find (comes_after key.now) records.now }
 {
-    let place = place_after(records, key);
-    if place < records.len() {
-        Some(&records[place])
-    } else {
-        None
+    match records.from(&AfterKey { key }).next() {
+        Some(aux) => Some(aux),
+        None => None,
     }
 }
 
-fn replace_at(records: &mut SpareList<AuxRecord>, place: usize, aux: AuxRecord, len: u128) -> u128
-    requires place { IsRecordAt aux.key records.old place }
-    requires kept { AreKept records.old len }
-    requires short { IsShort aux }
-    ensures kept { AreKept records.new result }
-    ensures puts { records.new ≡ with_record aux records.old }
+// How many bytes spell the record with the key, if there is one.
+fn len_at(records: &ChunkedList<AuxRecord>, key: &[u8]) -> Option<u128>
+    requires { AreRecordsFrom None records.now }
+    ensures { result ≡ option_map aux_len (record_at records.now key.now) }
 {
-    let more = len_of(&aux);
-    let before = records.replace(place, aux);
-    len - len_of(&before) + more
+    match find_record(records, key) {
+        Some(aux) => Some(len_of(aux)),
+        None => None,
+    }
 }
 
-fn insert_at(
-    records: &mut SpareList<AuxRecord>,
-    place: usize,
+// No state has records that are too long for this number.
+fn sum(len: u128, more: u128) -> Result<u128, OutOfMemory>
+    ensures { IfOk result (λ n. n ≡ len + more) }
+{
+    match len.checked_add(more) {
+        Some(n) => Ok(n),
+        None => Err(no_such_state()),
+    }
+}
+
+// Puts the record in place of the one with its key.
+fn replace_record(records: &mut ChunkedList<AuxRecord>, aux: AuxRecord)
+    requires there { is_some (record_at records.old aux.key) ≡ true }
+    requires rise { AreRecordsFrom None records.old }
+    ensures { records.new ≡ with_record aux records.old }
+{
+    let before = records.replace_in(&ByKey, aux);
+    drop(before);
+}
+
+// Adds the record, whose key no other has.
+fn insert_record(records: &mut ChunkedList<AuxRecord>, aux: AuxRecord) -> Result<(), OutOfMemory>
+    requires absent { is_some (record_at records.old aux.key) ≡ false }
+    requires rise { AreRecordsFrom None records.old }
+    ensures ok { OnOk result (records.new ≡ with_record aux records.old) }
+    ensures err { OnErr result (records.new ≡ records.old) }
+{
+    records.insert_in(&ByKey, aux)
+}
+
+// With these bytes more.
+fn put_longer(
+    records: &mut ChunkedList<AuxRecord>,
     aux: AuxRecord,
     len: u128,
 ) -> Result<u128, OutOfMemory>
-    requires place { IsRecordGap aux.key records.old place }
-    requires kept { AreKept records.old len }
+    requires kept { (n : ℕ) × AreKept records.old n × (len ≡ n + aux_len aux) }
     requires short { IsShort aux }
     ensures kept { IfOk result (AreKept records.new) }
     ensures puts { OnOk result (records.new ≡ with_record aux records.old) }
     ensures err { OnErr result (records.new ≡ records.old) }
 {
-    let more = len_of(&aux);
-    records.insert(place, aux)?;
-    Ok(len + more)
-}
-
-// What the place of a record holds that went. It takes no memory.
-fn nothing(alloc: Global) -> AuxRecord {
-    AuxRecord {
-        key: Blob::from_vec(Vec::new(alloc)),
-        value: Blob::from_vec(Vec::new(alloc)),
+    match len_at(records, aux.key.as_slice()) {
+        Some(less) => {
+            replace_record(records, aux);
+            Ok(len - less)
+        }
+        None => {
+            insert_record(records, aux)?;
+            Ok(len)
+        }
     }
-}
-
-fn remove_at(records: &mut SpareList<AuxRecord>, place: usize, len: u128) -> u128
-    requires place { place < length records.old }
-    requires kept { AreKept records.old len }
-    ensures kept { AreKept records.new result }
-    ensures removes { records.new ≡ remove records.old place }
-{
-    let filler = nothing(records.allocator());
-    let aux = records.remove(place, Some(filler));
-    len - len_of(&aux)
 }
 
 /// Puts the record in place of the one with its key, or adds it. `len` is how many bytes spell the records, and what is
 /// given is how many do then. Without memory nothing changes.
 pub(crate) fn put_record(
-    records: &mut SpareList<AuxRecord>,
+    records: &mut ChunkedList<AuxRecord>,
     aux: AuxRecord,
     len: u128,
 ) -> Result<u128, OutOfMemory>
@@ -165,20 +161,26 @@ pub(crate) fn put_record(
     ensures puts { OnOk result (records.new ≡ with_record aux records.old) }
     ensures err { OnErr result (records.new ≡ records.old) }
 {
-    match find_place(records.as_slice(), aux.key.as_slice()) {
-        Ok(place) => Ok(replace_at(records, place, aux, len)),
-        Err(place) => insert_at(records, place, aux, len),
+    match sum(len, len_of(&aux)) {
+        Ok(longer) => put_longer(records, aux, longer),
+        Err(memory) => {
+            drop(aux);
+            Err(memory)
+        }
     }
 }
 
 /// Takes the record with the key out, if there is one. Gives how many bytes spell the records then.
-pub(crate) fn remove_record(records: &mut SpareList<AuxRecord>, key: &[u8], len: u128) -> u128
+pub(crate) fn remove_record(records: &mut ChunkedList<AuxRecord>, key: &[u8], len: u128) -> u128
     requires { AreKept records.old len }
     ensures kept { AreKept records.new result }
     ensures removes { records.new ≡ without_record key.now records.old }
 {
-    match find_place(records.as_slice(), key) {
-        Ok(place) => remove_at(records, place, len),
-        Err(_) => len,
+    match len_at(records, key) {
+        Some(less) => {
+            records.remove(&AtKey { key });
+            len - less
+        }
+        None => len,
     }
 }

@@ -1,19 +1,21 @@
 //! The auxiliary records of a volume.
 
 ghost use Rattle.std.specs.Prelude.{◌≡◌, ◌<◌, ◌^◌, [], List, None, OnOk, OnErr, IfOk, find, min, option_copied, true};
+ghost use Rattle.cf_collections.specs.Split.{behind};
 ghost use Rattle.cf_model.specs.Formats.{with_record, without_record};
 ghost use Rattle.std.specs.List.{list_any};
 ghost use Rattle.cf_volume_image.specs.Contents.{record_at};
 ghost use Rattle.cf_volume_image.specs.Numbers.{has_number};
-ghost use Rattle.cf_volume_image.specs.RecordLists.{IsShort, comes_after, records_len};
+ghost use Rattle.cf_volume_image.specs.RecordLists.{IsShort, comes_after, records_len, stands_before};
 ghost use Rattle.cf_volume_image.specs.Spelled.{AreRecordsFrom};
 
 use crate::number_places::NumberPlace;
 use crate::numbered_lists::{numbers_of_all, put_numbered, remove_numbered};
-use crate::record_lists::{find_after, find_record, len_of_all};
+use crate::record_lists::{find_after, find_record, first_of, len_of_all};
 use crate::record_numbers::RecordNumbers;
+use crate::record_places::AtKey;
 use cf_base::{AuxRecord, OutOfMemory};
-use cf_collections::SpareList;
+use cf_collections::{ChunkedList, Items};
 use std::alloc::Global;
 use std::marker::Model;
 
@@ -21,7 +23,7 @@ use std::marker::Model;
 /// for by two numbers that stand at fixed places of their values.
 #[derive(Drop)]
 pub struct AuxRecords {
-    records: SpareList<AuxRecord>,
+    records: ChunkedList<AuxRecord>,
     numbers: RecordNumbers,
     len: u128,
 }
@@ -45,7 +47,7 @@ impl AuxRecords {
         ensures { result ≡ [] }
     {
         AuxRecords {
-            records: SpareList::new(alloc),
+            records: ChunkedList::new(alloc),
             numbers: RecordNumbers::new(alloc),
             len: 0,
         }
@@ -67,40 +69,55 @@ impl AuxRecords {
             }
         };
         let len = len_of_all(&records);
-        Ok(AuxRecords {
-            records: SpareList::from_vec(alloc, records),
-            numbers,
-            len,
-        })
+        match ChunkedList::from_vec(alloc, records) {
+            Ok(records) => Ok(AuxRecords {
+                records,
+                numbers,
+                len,
+            }),
+            Err(memory) => {
+                drop(numbers);
+                Err(memory)
+            }
+        }
     }
 
     /// The record with the key. By a binary search.
     pub fn get(&self, key: &[u8]) -> Option<&AuxRecord>
         ensures { option_copied result ≡ record_at self.now key.now }
     {
-        find_record(self.records.as_slice(), key)
+        find_record(&self.records, key)
     }
 
     /// The first record of all.
     pub fn first(&self) -> Option<&AuxRecord>
         ensures { option_copied result ≡ find (λ r. true) self.now }
     {
-        self.records.as_slice().first()
+        first_of(&self.records)
     }
 
     /// The first record whose key comes after this one. By a binary search.
     pub fn after(&self, key: &[u8]) -> Option<&AuxRecord>
         ensures { option_copied result ≡ find (comes_after key.now) self.now }
     {
-        find_after(self.records.as_slice(), key)
+        find_after(&self.records, key)
     }
 
-    /// The records in order of key.
-    pub fn as_slice(&self) -> &[AuxRecord]
-        ensures value { result.now ≡ self.now }
+    /// The records in order of key. Takes no memory.
+    pub fn iter(&self) -> Items<'_, AuxRecord>
+        ensures value { result ≡ self.now }
         ensures rise { AreRecordsFrom None self.now }
     {
-        self.records.as_slice()
+        self.records.iter()
+    }
+
+    /// The records from the one with the key on, or where none has it from the first one on whose key comes after. Looks by halves, and
+    /// takes no memory.
+    pub fn from(&self, key: &[u8]) -> Items<'_, AuxRecord>
+        ensures value { result ≡ behind (stands_before key.now) self.now }
+        ensures rise { AreRecordsFrom None self.now }
+    {
+        self.records.from(&AtKey { key })
     }
 
     /// Whether a record of an upload has the number at the place of its value. Records of other kinds are not looked at. It takes time
@@ -115,7 +132,8 @@ impl AuxRecords {
     /// How many bytes spell the records, after the four of their count; the greatest u64 where that is less. It is kept
     /// and not computed.
     pub fn image_len(&self) -> u64
-        ensures { result ≡ min (records_len self.now) 18446744073709551615 }
+        ensures value { result ≡ min (records_len self.now) 18446744073709551615 }
+        ensures rise { AreRecordsFrom None self.now }
     {
         self.len.min(u64::MAX as u128) as u64
     }

@@ -28,7 +28,7 @@ fn first_parts(alloc: Global, clusters: u32) -> Result<Parts, OutOfMemory>
     let mut contents = first_contents(alloc)?;
     contents.last = Usn { epoch: 1, place: 0 };
     let _ = contents.rows.image_len();
-    let _ = contents.records.as_slice();
+    let _ = contents.records.image_len();
     let journal = Journal::of_no_disk();
     Ok(Parts {
         journal,

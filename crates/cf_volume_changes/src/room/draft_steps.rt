@@ -138,7 +138,7 @@ fn draft_remove(
     ensures { (w : Volume) → DraftsNext contents.now change.now number draft.old draft.new w result }
 {
     let _ = number;
-    let _ = contents.records.as_slice();
+    let _ = contents.records.image_len();
     let id = item_of(change);
     leave_record_out(alloc, draft, contents, id)?;
     let gone = sizes_in(draft, contents, id);

@@ -126,7 +126,7 @@ fn put_beside(
     requires { All IsShort list.now }
     ensures { IfOk result (λ t. Besides gone.now records.now t [] list.now) }
 {
-    let _ = records.as_slice();
+    let _ = records.image_len();
     let taken = keys_taken(alloc, gone)?;
     let mut so_far = Beside {
         put: AuxRecords::new(alloc),

@@ -6,9 +6,9 @@ use Rattle.cf_engine_queue.proofs.look_ups.find_entry.Goals as goal
 
 pub returns-in-Some : goal.returns-in-Some
 returns-in-Some c = λ b k same.
-    entry_some b k c.args.records.now same c.as_slice.result.now (option_copied c.find_record.result) c.find_record.ensures c.args.token c.in-Some.record.now (entry_value c.in_ok-entry_said-in-Some.field-0) c.in_ok-key.ensures.fits
+    entry_some b k c.args.records.now same c.as_slice.result.now (option_copied c.get.result) c.get.ensures c.args.token c.in-Some.record.now (entry_value c.in_ok-entry_said-in-Some.field-0) c.in_ok-key.ensures.fits
     (c.as_slice.ensures ∙ c.in_ok-key.ensures.ok) (ap option_copied c.in-Some.is) c.in_ok-entry_said-in-Some.ensures
 
 pub returns : goal.returns
 returns c = λ b k same.
-    entry_none b k c.args.records.now same c.as_slice.result.now (option_copied c.find_record.result) c.find_record.ensures c.args.token c.in_ok-key.ensures.fits (c.as_slice.ensures ∙ c.in_ok-key.ensures.ok) (ap option_copied c.in-None.is)
+    entry_none b k c.args.records.now same c.as_slice.result.now (option_copied c.get.result) c.get.ensures c.args.token c.in_ok-key.ensures.fits (c.as_slice.ensures ∙ c.in_ok-key.ensures.ok) (ap option_copied c.in-None.is)

@@ -7,10 +7,10 @@ use Rattle.cf_engine_queue.proofs.look_ups.is_seen_at.Goals as goal
 
 pub returns-in-Some : goal.returns-in-Some
 returns-in-Some c = λ b k same_records.
-    if_seen b k c.args.records.now same_records c.as_slice.result.now (option_copied c.find_record.result) c.find_record.ensures (λ (p : SeenPath). (c.args.parent.0 == p.parent.0) && same c.args.name.now p.name) c.args.item c.in-Some.record.now c.has_path.result
+    if_seen b k c.args.records.now same_records c.as_slice.result.now (option_copied c.get.result) c.get.ensures (λ (p : SeenPath). (c.args.parent.0 == p.parent.0) && same c.args.name.now p.name) c.args.item c.in-Some.record.now c.has_path.result
     c.in_ok-key.ensures.fits (c.as_slice.ensures ∙ c.in_ok-key.ensures.ok) (ap option_copied c.in-Some.is) c.has_path.ensures
 
 pub returns : goal.returns
 returns c = λ b k same_records.
     ap (says (λ (p : SeenPath). (c.args.parent.0 == p.parent.0) && same c.args.name.now p.name))
-    (seen_none b k c.args.records.now same_records c.as_slice.result.now (option_copied c.find_record.result) c.find_record.ensures c.args.item c.in_ok-key.ensures.fits (c.as_slice.ensures ∙ c.in_ok-key.ensures.ok) (ap option_copied c.in-None.is))
+    (seen_none b k c.args.records.now same_records c.as_slice.result.now (option_copied c.get.result) c.get.ensures c.args.item c.in_ok-key.ensures.fits (c.as_slice.ensures ∙ c.in_ok-key.ensures.ok) (ap option_copied c.in-None.is))

@@ -33,7 +33,7 @@ returns-in-Ok-clause-sure g c = λ v at keep.
     (record { same_size = g.met.G.Ground.same_size c.args.ground.now })
     c.requires.steady c.image_len.ensures.rises c.image_len.ensures.kept (c.can_be_written.ensures.0 c.if-not-can_be_written.false) v at keep
     c.save.new.journal c.save.new.held c.in_ok-then.then (subst (λ (n : ItemId). NotesNothing n c.in_ok-then.then) c.next.ensures c.in_ok-then.ensures) c.in-Ok.ensures.held c.used-parts.result c.used-parts.ensures c.in-Ok.ensures.saved
-    c.as_slice.ensures.rise c.save.ensures.ran.size c.in-Ok.ensures.durable c.in-Ok.ensures.rest
+    c.image_len-2.ensures.rise c.save.ensures.ran.size c.in-Ok.ensures.durable c.in-Ok.ensures.rest
 
 pub returns-in-Ok-clause-room : goal.returns-in-Ok-clause-room
 returns-in-Ok-clause-room g c = λ v at keep.
@@ -41,7 +41,7 @@ returns-in-Ok-clause-room g c = λ v at keep.
     (record { same_size = g.met.G.Ground.same_size c.args.ground.now })
     c.requires.steady c.image_len.ensures.rises c.image_len.ensures.kept (c.can_be_written.ensures.0 c.if-not-can_be_written.false) v at keep
     c.save.new.journal c.save.new.held c.in_ok-then.then (subst (λ (n : ItemId). NotesNothing n c.in_ok-then.then) c.next.ensures c.in_ok-then.ensures) c.in-Ok.ensures.held c.used-parts.result c.used-parts.ensures c.in-Ok.ensures.saved
-    c.as_slice.ensures.rise c.save.ensures.ran.size c.in-Ok.ensures.durable c.in-Ok.ensures.rest
+    c.image_len-2.ensures.rise c.save.ensures.ran.size c.in-Ok.ensures.durable c.in-Ok.ensures.rest
 
 pub returns-in-Ok-clause-crash : goal.returns-in-Ok-clause-crash
 returns-in-Ok-clause-crash g c = λ v at keep.

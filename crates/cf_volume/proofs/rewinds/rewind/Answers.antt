@@ -18,7 +18,7 @@ returns-clause-rewinds c = λ i last.
     let again = rows_again (known_of c.args.parts.now) i c.restore_rows.new.rows.rows last c.image_len.ensures.rises c.in_ok-restore_rows.ensures.rows in
     record {
       rows = again;
-      records = records_again (known_of c.args.parts.now) i c.restore_records.new.records last c.as_slice.ensures.rise c.in_ok-restore_records.ensures;
+      records = records_again (known_of c.args.parts.now) i c.restore_records.new.records last c.image_len-2.ensures.rise c.in_ok-restore_records.ensures;
       next = c.in_ok-restore_rows.ensures.next;
       count = refl;
       clock = refl;

@@ -9,7 +9,7 @@ pub returns-in-None-clause-count : goal.returns-in-None-clause-count
 returns-in-None-clause-count c = no_record_count c.args.records.now c.args.key.now c.in-None.ensures
 
 pub put_record-requires : goal.put_record-requires
-put_record-requires c = short_of None c.args.records.now c.args.key.now c.in-Some.aux.now c.as_slice.ensures.rise c.in-Some.ensures
+put_record-requires c = short_of None c.args.records.now c.args.key.now c.in-Some.aux.now c.image_len.ensures.rise c.in-Some.ensures
 
 pub returns-in_ok-put_record-in-Some-clause-spelled : goal.returns-in_ok-put_record-in-Some-clause-spelled
 returns-in_ok-put_record-in-Some-clause-spelled c = record_put c.args.records.now c.args.key.now c.in-Some.aux.now c.args.out.now c.put_record.new.out c.in-Some.ensures c.in_ok-put_record-in-Some.ensures

@@ -1,14 +1,11 @@
-use Rattle.std.proofs.Common.{◌∙◌, Some, ap, not}
-use Rattle.cf_volume_image.specs.RecordLists.{comes_after}
-use Rattle.cf_volume_image.proofs.RecordPlaces.{after_found, none_behind, splits_at}
+use Rattle.cf_volume_image.proofs.RecordPlaces.{found_after, none_after_it, split_after}
 use Rattle.cf_volume_image.proofs.record_lists.find_after.Goals as goal
 
-pub returns-then-place-records : goal.returns-then-place-records
-returns-then-place-records c =
-    ap Some c.index-records-place.is
-    ∙ after_found c.args.key.now c.args.records.now c.place_after-place.result c.index-records-place.result
-    (splits_at (λ r. not (comes_after c.args.key.now r)) c.args.records.now c.place_after-place.result c.place_after-place.ensures) c.if-place-records.true
+pub from-requires : goal.from-requires
+from-requires c = split_after c.args.key.now c.args.records.now c.requires
 
-pub returns-else-place-records : goal.returns-else-place-records
-returns-else-place-records c =
-    none_behind c.args.key.now c.args.records.now c.place_after-place.result (splits_at (λ r. not (comes_after c.args.key.now r)) c.args.records.now c.place_after-place.result c.place_after-place.ensures) c.if-place-records.false
+pub returns-in-Some : goal.returns-in-Some
+returns-in-Some c = found_after c.args.key.now c.args.records.now c.from.result c.next.new.self c.in-Some.aux.now c.from.ensures c.in-Some.ensures
+
+pub returns-in-None : goal.returns-in-None
+returns-in-None c = none_after_it c.args.key.now c.args.records.now c.from.result c.from.ensures c.in-None.ensures

@@ -1,9 +1,11 @@
-use Rattle.std.proofs.Common.{[]}
-use Rattle.cf_volume_image.proofs.RecordPlaces.{found_at, found_nowhere}
+use Rattle.cf_volume_image.proofs.RecordPlaces.{found_there, none_found, split}
 use Rattle.cf_volume_image.proofs.record_lists.find_record.Goals as goal
 
-pub returns-in-Ok : goal.returns-in-Ok
-returns-in-Ok c = found_at c.args.key.now c.args.records.now c.in-Ok.place c.index-records-place.result c.in-Ok.ensures.found c.index-records-place.is
+pub from-requires : goal.from-requires
+from-requires c = split c.args.key.now c.args.records.now c.requires
 
-pub returns-in-Err : goal.returns-in-Err
-returns-in-Err c = found_nowhere c.args.key.now c.args.records.now c.in-Err.field-0 (record { key = []; value = [] }) c.requires c.in-Err.ensures.absent
+pub returns-in-Some : goal.returns-in-Some
+returns-in-Some c = found_there c.args.key.now c.args.records.now c.requires c.from.result c.next.new.self c.in-Some.aux.now _ c.from.ensures c.in-Some.ensures c.if_named.ensures
+
+pub returns-in-None : goal.returns-in-None
+returns-in-None c = none_found c.args.key.now c.args.records.now c.requires c.from.result c.from.ensures c.in-None.ensures

@@ -1,14 +1,25 @@
-use Rattle.std.proofs.Common.{◌∙◌, [], List, subst}
+use Rattle.std.proofs.Common.{◌∙◌, ◌-◌, List, arith, subst, sym}
 use Rattle.cf_base.specs.declared.answers.AuxRecord.{AuxRecord}
-use Rattle.cf_volume_image.specs.RecordLists.{IsRecordAt, IsRecordGap}
-use Rattle.cf_volume_image.proofs.RecordPlaces.{removed_at, removed_nowhere}
+use Rattle.cf_volume_image.specs.RecordLists.{AreKept}
+use Rattle.cf_volume_image.proofs.RecordPlaces.{kept_without, len_none, len_some, less_there, remove_nowhere, remove_there, split}
 use Rattle.cf_volume_image.proofs.record_lists.remove_record.Goals as goal
 
-pub returns-in-Ok-clause-removes : goal.returns-in-Ok-clause-removes
-returns-in-Ok-clause-removes c =
-    c.remove_at.ensures.removes
-    ∙ removed_at c.args.key.now c.args.records.now c.in-Ok.place (record { key = []; value = [] }) c.requires.rise (subst (λ (l : List AuxRecord). IsRecordAt c.args.key.now l c.in-Ok.place) c.as_slice.ensures c.in-Ok.ensures.found)
+pub len_at-requires : goal.len_at-requires
+len_at-requires c = c.requires.rise
 
-pub returns-in-Err-clause-removes : goal.returns-in-Err-clause-removes
-returns-in-Err-clause-removes c =
-    removed_nowhere c.args.key.now c.args.records.now c.in-Err.field-0 (record { key = []; value = [] }) c.requires.rise (subst (λ (l : List AuxRecord). IsRecordGap c.args.key.now l c.in-Err.field-0) c.as_slice.ensures c.in-Err.ensures.absent)
+pub remove-requires : goal.remove-requires
+remove-requires c = split c.args.key.now c.args.records.now c.requires.rise
+
+pub overflow_sub-result : goal.overflow_sub-result
+overflow_sub-result c = less_there c.args.key.now c.args.records.now c.requires.rise c.args.len c.in-Some.less c.requires.len c.in-Some.ensures
+
+pub returns-in-Some-clause-kept : goal.returns-in-Some-clause-kept
+returns-in-Some-clause-kept c =
+    subst (λ (l : List AuxRecord). AreKept l (c.args.len - c.in-Some.less)) (sym (remove_there c.args.key.now c.args.records.now c.requires.rise c.remove.new.self (len_some _ c.in-Some.less c.in-Some.ensures) c.remove.ensures))
+    (kept_without c.args.key.now c.args.records.now c.requires.rise c.args.len c.in-Some.less c.requires.len c.in-Some.ensures)
+
+pub returns-in-Some-clause-removes : goal.returns-in-Some-clause-removes
+returns-in-Some-clause-removes c = remove_there c.args.key.now c.args.records.now c.requires.rise c.remove.new.self (len_some _ c.in-Some.less c.in-Some.ensures) c.remove.ensures
+
+pub returns-in-None-clause-removes : goal.returns-in-None-clause-removes
+returns-in-None-clause-removes c = remove_nowhere c.args.key.now c.args.records.now c.requires.rise (len_none _ c.in-None.ensures)

@@ -22,7 +22,7 @@ returns c = λ w drafts n_is fits book.
     subst (λ (o : Option Row). AreSizesOf o c.sizes_in-gone.result) (λ j. or_now (row_of (first.0 j).rows id) (cond (is_gone (first.1 j).items id) None (row_of c.args.contents.now.rows.rows id))) c.sizes_in-gone.ensures in
     subst (λ (ch : Change). (0 ≡ length (puts_into w.items ch)) × Drafts c.args.contents.now c.remove_row.new.draft (put_change ch w)) (sym is) (
       refl,
-      gone_drafts c.args.contents.now c.args.draft.now c.remove_row.new.draft w id c.sizes_in-gone.result drafts c.leave_record_out.ensures.low (subst (λ (ch : Change). FitsBook ch w.book) is book) c.as_slice.ensures.rise
+      gone_drafts c.args.contents.now c.args.draft.now c.remove_row.new.draft w id c.sizes_in-gone.result drafts c.leave_record_out.ensures.low (subst (λ (ch : Change). FitsBook ch w.book) is book) c.image_len.ensures.rise
           (c.in_ok-remove_row.ensures.changed ∙ (λ j. without_row id ((then'.0 ∙ first.0) j).rows)) (c.in_ok-remove_row.ensures.gone ∙ (λ j. ((then'.1 ∙ first.1) j).items ++ id ∷ []))
           (c.remove_row.ensures.sizes.0 ∙ then'.2 ∙ first.2) (c.remove_row.ensures.sizes.1 ∙ c.in_ok-leave_out.ensures.less ∙ ap (λ (z : Sizes). added z c.sizes_in-gone.result) c.in_ok-leave_record_out.ensures.less)
           sizes,

@@ -9,7 +9,7 @@ use Rattle.cf_volume_changes.specs.Besides.{Besides}
 use Rattle.cf_volume_changes.proofs.room.records.put_beside.Goals as goal
 
 pub loop-aux-init : goal.loop-aux-init
-loop-aux-init c = put_none c.args.gone.now c.args.records.now c.args.list.now _ c.new.ensures refl refl c.as_slice.ensures.rise
+loop-aux-init c = put_none c.args.gone.now c.args.records.now c.args.list.now _ c.new.ensures refl refl c.image_len.ensures.rise
 
 pub put_one-requires : goal.put_one-requires
 put_one-requires c = subst IsShort (sym c.aux-item.is) (All-get_or (λ (r : AuxRecord). IsShort r) c.args.list.now c.loop-aux.aux-index c.aux-item.result c.loop-aux-test.true c.requires)

@@ -11,5 +11,5 @@ pub returns : goal.returns
 returns c =
     c.saturating_add-2.ensures
     ∙ ap (λ (a : ℕ). min (a + c.image_len-2.result) 18446744073709551615) (c.saturating_add.ensures ∙ ap (λ (a : ℕ). min (41 + a) 18446744073709551615) c.image_len.ensures.value)
-    ∙ ap (λ (a : ℕ). min (min (41 + min (rows_len c.args.self.now.rows.rows) 18446744073709551615) 18446744073709551615 + a) 18446744073709551615) c.image_len-2.ensures
+    ∙ ap (λ (a : ℕ). min (min (41 + min (rows_len c.args.self.now.rows.rows) 18446744073709551615) 18446744073709551615 + a) 18446744073709551615) c.image_len-2.ensures.value
     ∙ capped (length (spell_image (image_of c.args.self.now))) (rows_len c.args.self.now.rows.rows) (records_len c.args.self.now.records) (image_length c.args.self.now)
