@@ -1,5 +1,5 @@
 -- Records that fit rows, one after the other.
-use Rattle.std.proofs.Common.{◌≡◌, ℕ, Bool, true, false, cond, List, [], ◌∷◌, ◌==◌, ◌&&◌, map, nat_lt, Option, Some, refl, sym, ◌∙◌, ap, subst, arith}
+use Rattle.std.proofs.Common.{◌≡◌, Bool, true, false, cond, List, [], ◌∷◌, ◌==◌, ◌&&◌, map, nat_lt, Option, Some, refl, sym, ◌∙◌, ap, subst, arith}
 use Rattle.std.specs.List.{list_all}
 use Rattle.std.specs.Prelude.{◌↔◌, All, Err, IfOk, IsTrue, Ok, Result, find}
 use Rattle.std.specs.Option.{option_map}

@@ -1,5 +1,5 @@
-use Rattle.std.proofs.Common.{◌≡◌, ◌<◌, ◌++◌, ◌∷◌, ◌∙◌, List, ap, arith, get_or, length, refl, subst, sym}
-use Rattle.cf_collections.specs.Split.{IsSplit, behind, flat, front, last_passes, rest}
+use Rattle.std.proofs.Common.{◌≡◌, ◌<◌, ◌++◌, ◌∷◌, ◌∙◌, List, ap, arith, length, refl, subst, sym}
+use Rattle.cf_collections.specs.Split.{IsSplit, behind, front, last_passes, rest}
 use Rattle.cf_collections.proofs.ChunkEdits.{filled_set, some_more}
 use Rattle.cf_collections.proofs.ChunkFronts.{changed, chunk_there, first_there, split_at}
 use Rattle.cf_collections.proofs.Splits.{fails_at}

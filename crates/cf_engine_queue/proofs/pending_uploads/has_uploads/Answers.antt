@@ -1,4 +1,4 @@
-use Rattle.std.proofs.Common.{◌∙◌, sym}
+use Rattle.std.proofs.Common.{◌∙◌}
 use Rattle.cf_engine_queue.proofs.UploadRecords.{no_uploads, some_uploads}
 use Rattle.cf_engine_queue.proofs.pending_uploads.has_uploads.Goals as goal
 

@@ -1,5 +1,5 @@
-use Rattle.std.proofs.Common.{◌≡◌, ◌∙◌, ◌-◌, List, ap, arith, subst, sym}
-use Rattle.std.specs.Prelude.{Some, None, option_map}
+use Rattle.std.proofs.Common.{◌∙◌, ◌-◌, List, ap, arith, subst, sym}
+use Rattle.std.specs.Prelude.{option_map}
 use Rattle.cf_base.specs.declared.answers.AuxRecord.{AuxRecord}
 use Rattle.cf_model.specs.Images.{aux_len}
 use Rattle.cf_volume_image.specs.Contents.{record_at}

@@ -1,4 +1,4 @@
-use Rattle.std.proofs.Common.{◌∙◌, ◌-◌, List, arith, subst, sym}
+use Rattle.std.proofs.Common.{◌-◌, List, subst, sym}
 use Rattle.cf_base.specs.declared.answers.AuxRecord.{AuxRecord}
 use Rattle.cf_volume_image.specs.RecordLists.{AreKept}
 use Rattle.cf_volume_image.proofs.RecordPlaces.{kept_without, len_none, len_some, less_there, remove_nowhere, remove_there, split}
