@@ -19,6 +19,9 @@ use cf_base::{Blob, Identity, ItemId};
 use cf_codec::{Format, Reader};
 use std::alloc::Global;
 
+// How many rows room is taken for before they are read. A count that is no count of rows takes no more.
+const MOST_AT_ONCE: usize = 1024;
+
 fn read_name(alloc: Global, r: &mut Reader) -> Result<Blob, RowError>
     ensures took { IfOk result (λ name. Takes (name_bytes name) r.old r.new) }
     ensures fits { IfOk result IsName }
@@ -101,7 +104,7 @@ fn read_rows(
     ensures room { IfOk result (λ t. All HasRoom t) }
     ensures fault { IfErr result (AtRows format None count r.old) }
 {
-    let mut rows = UnindexedRows::new(alloc);
+    let mut rows = UnindexedRows::with_capacity(alloc, (count as usize).min(MOST_AT_ONCE))?;
     let mut before = None;
     for _ in 0..count {
         let row = read_row(alloc, r, format, before)?;

@@ -60,14 +60,14 @@ fn gathered(alloc: Global, slots: Vec<Slot>) -> Result<ListedRows, OutOfMemory>
 }
 
 impl UnindexedRows {
-    /// No rows. It takes no memory yet.
-    pub(crate) fn new(alloc: Global) -> UnindexedRows
-        ensures { result ≡ [] }
+    /// No rows, with room for so many.
+    pub(crate) fn with_capacity(alloc: Global, count: usize) -> Result<UnindexedRows, OutOfMemory>
+        ensures { IfOk result (λ t. t ≡ []) }
     {
-        UnindexedRows {
-            slots: Vec::new(alloc),
+        Ok(UnindexedRows {
+            slots: Vec::with_capacity(alloc, count)?,
             alloc,
-        }
+        })
     }
 
     /// Adds a row whose id is above all others. Without memory the rows are as before.

@@ -8,7 +8,7 @@ use Rattle.cf_table.proofs.reads.read_rows.Goals as goal
 
 pub returns-in_err-row-clause-fault : goal.returns-in_err-row-clause-fault
 returns-in_err-row-clause-fault c =
-    exits _ _ _ c.from_residual.ensures.1 (c.loop.invariant.fault _ (row_fault _ _ _ _ _ _ (one_less c.args.count c.loop.counter (omega arith)) c.in_err-row.ensures.fault))
+    exits _ _ _ c.from_residual-in_err-row.ensures.1 (c.loop.invariant.fault _ (row_fault _ _ _ _ _ _ (one_less c.args.count c.loop.counter (omega arith)) c.in_err-row.ensures.fault))
 
 pub push_row-requires-clause-above : goal.push_row-requires-clause-above
 push_row-requires-clause-above c = all_below _ _ (c.loop.invariant.below _ c.in_ok-row.ensures.fits.head.who.1)
