@@ -1,6 +1,6 @@
 //! Openings.
 
-ghost use Rattle.std.specs.Prelude.{◌≡◌, ◌≤◌, ◌<◌, ◌+◌, [], ◌++◌, ◌⊎◌, ℕ, List, Some, None, map, false, true, Err, IfErr, IfOk, IsOk, OnOk};
+ghost use Rattle.std.specs.Prelude.{◌≡◌, ◌≤◌, ◌<◌, ◌+◌, [], ◌⊎◌, ℕ, List, Some, None, map, false, true, Err, IfErr, IfOk, IsOk, OnOk};
 ghost use Rattle.cf_base.specs.declared.changes.Change.{Change};
 ghost use Rattle.cf_base.specs.declared.codes.Code.TheVariants as code;
 ghost use Rattle.cf_base.specs.declared.codes.CallError.TheVariants as fail;
@@ -9,7 +9,6 @@ ghost use Rattle.cf_volume_commit.specs.Leading.{CanBeWritten, bytes_written};
 ghost use Rattle.cf_volume_commit.specs.Loaded.{Finds, HoldsImage, HoldsSecond, IsNoVolume, StandsOrWas, StandsThen, fail_of, known_of, number_after, opening_bytes, raised_image};
 ghost use Rattle.cf_clusters.specs.Roles.{Opens, committed};
 ghost use Rattle.cf_disk.specs.Disk.{size_of, capped, may_fail, Counts, HasFailed, Only, Leaves};
-ghost use Rattle.cf_volume_image.specs.ClusterLists.{clusters_in};
 ghost use Rattle.cf_volume_image.specs.Contents.{image_of, payload_of};
 ghost use Rattle.cf_volume_image.specs.Spelled.{AreRecordsFrom};
 ghost use Rattle.cf_journal.specs.Content.{Content, Stands, clusters};
@@ -38,8 +37,7 @@ use cf_base::{CallError, Code, OutOfMemory, Usn};
 use cf_clusters::Data;
 use cf_disk::Disk;
 use cf_journal::{Journal, one_content};
-use cf_table::Row;
-use cf_volume_image::{Contents, spell_payload};
+use cf_volume_image::{Contents, clusters_of, spell_payload};
 use cf_volume_points::Stop;
 use std::alloc::Global;
 
@@ -53,31 +51,12 @@ fn refused(why: FindError) -> CallError
     }
 }
 
-fn push_clusters(clusters: &mut Vec<u32>, pairs: &[(u32, u32)]) -> Result<(), OutOfMemory>
-    ensures { OnOk result (clusters.new.items ≡ clusters.old.items ++ clusters_in pairs.now) }
-{
-    for pair in pairs {
-        clusters.push(pair.1)?;
-    }
-    Ok(())
-}
-
-fn clusters_held(alloc: Global, rows: &[Row]) -> Result<Vec<u32>, OutOfMemory>
-    ensures { IfOk result (λ v. v.items ≡ clusters_of (map row_value rows.now)) }
-{
-    let mut clusters = Vec::new(alloc);
-    for row in rows {
-        push_clusters(&mut clusters, row.extents.pairs())?;
-    }
-    Ok(clusters)
-}
-
 /// So many clusters, of which those of the rows are held. OutOfMemory where there is none.
 pub fn data_of(alloc: Global, contents: &Contents, clusters: u32) -> Result<Data, OutOfMemory>
     requires { are_apart clusters (clusters_of (map row_value contents.now.rows.rows)) ≡ true }
     ensures { IfOk result (Opens clusters (clusters_of (map row_value contents.now.rows.rows))) }
 {
-    let held = clusters_held(alloc, contents.rows.as_slice())?;
+    let held = clusters_of(alloc, contents.rows.as_slice())?;
     Data::new(alloc, clusters, &held)
 }
 

@@ -1,17 +1,13 @@
 -- Clusters that are held once.
-use Rattle.std.proofs.Common.{◌≡◌, ℕ, suc, ◌+◌, ◌<◌, ◌≤◌, ◌==◌, Bool, true, false, ◌&&◌, ◌||◌, not, cond, List, [], ◌∷◌, ◌++◌, length, get_or, drop, refl, sym, ap, ◌∙◌, append_assoc, arith, eqb, ltb}
-use Rattle.std.specs.Prelude.{map, nat_lt}
+use Rattle.std.proofs.Common.{◌≡◌, ◌≢◌, ℕ, zero, suc, ◌+◌, ◌<◌, ◌==◌, Bool, true, false, ◌&&◌, ◌||◌, not, List, [], ◌∷◌, ◌++◌, length, get_or, set, drop, replicate, refl, sym, ap, ◌∙◌, append_assoc, arith, eqb, inl, inr, ltb, get_or-set_same, get_or-set_other, length-set}
+use Rattle.std.specs.Prelude.{map}
 use Rattle.std.specs.List.{list_all, list_any}
-use Rattle.std.specs.Ordering.{eq_by_cmp, is_eq, nat_cmp}
-use Rattle.std.specs.declared.cmp.Ordering.TheVariants.{Less, Equal, Greater}
-use Rattle.std.specs.Set.{distinct_count, is_member, unique_keys}
-use Rattle.std.proofs.lemmas.Bool.{ne_eqb}
+use Rattle.std.proofs.lemmas.Bool.{cases_Bool, eq-eqb, eqb-true}
 use Rattle.std.proofs.lemmas.Bool.Decides.{nat_tests}
-use Rattle.std.proofs.lemmas.Map.Made.{distinct_count-le}
 use Rattle.cf_model.specs.Standing.{are_apart, clusters_of}
 use Rattle.cf_table.specs.Spelling.{extent_of, row_value}
 use Rattle.cf_table.specs.declared.rows.Row.{Row}
-use Rattle.cf_volume_image.specs.ClusterLists.{clusters_in}
+use Rattle.cf_volume_image.specs.ClusterLists.{are_free, clusters_in}
 use Rattle.cf_volume_image.proofs.Loops.{drop_at}
 
 clusters_are : (pairs : List (ℕ × ℕ)) → map (λ e. e.cluster) (map extent_of pairs) ≡ clusters_in pairs
@@ -26,53 +22,79 @@ clusters_step rows i r out new all lt is puts so =
     ∙ ap (λ (l : List ℕ). out ++ (l ++ clusters_of (map row_value (drop (i + 1) rows)))) (sym (clusters_are r.extents))
     ∙ ap (λ (l : List Row). out ++ clusters_of (map row_value l)) (sym (drop_at rows i r lt is)) ∙ so
 
-same_number : (x m : ℕ) → eq_by_cmp nat_cmp x m ≡ (m == x)
-same_number x m = by (ltb x m) (eqb x m) (grind (arith, nat_tests)) (grind (arith, nat_tests)) where
-  by : (a b : Bool) → (a ≡ true → (m == x) ≡ false) → (a ≡ false → (m == x) ≡ b) → is_eq (cond a Less (cond b Equal Greater)) ≡ (m == x)
-  by true b h k = sym (h refl)
-  by false true h k = sym (k refl)
-  by false false h k = sym (k refl)
+-- what has no flag is taken
+pub free_inside : (taken : List Bool) (n : ℕ) → get_or taken n true ≡ false → n < length taken
+free_inside [] n h = let z : true ≡ false = h in absurd cc
+free_inside (t ∷ ts) zero h = omega arith
+free_inside (t ∷ ts) (suc n) h = let below : n < length ts = free_inside ts n h in omega (arith, below)
 
-member_is : (x : ℕ) (xs : List ℕ) → is_member (eq_by_cmp nat_cmp) xs x ≡ list_any (λ m. m == x) xs
-member_is x [] = refl
-member_is x (y ∷ ys) = two (same_number x y) (member_is x ys) where
-  two : {a b c d : Bool} → a ≡ b → c ≡ d → (a || c) ≡ (b || d)
-  two {a} {b} {c} {d} h k = ap (λ v. v || c) h ∙ ap (λ v. b || v) k
+abbrev all_free : List Bool → List ℕ → Bool
+all_free taken ns = list_all (λ n. not (get_or taken n true)) ns
 
-one_more : (x : ℕ) (xs : List ℕ) → distinct_count (eq_by_cmp nat_cmp) (x ∷ xs) ≡ cond (list_any (λ m. m == x) xs) (distinct_count (eq_by_cmp nat_cmp) xs) (suc (distinct_count (eq_by_cmp nat_cmp) xs))
-one_more x xs = by (is_member (eq_by_cmp nat_cmp) xs x) (list_any (λ m. m == x) xs) (member_is x xs) where
-  by : (a b : Bool) → a ≡ b → length (cond a (unique_keys (eq_by_cmp nat_cmp) xs) (x ∷ unique_keys (eq_by_cmp nat_cmp) xs)) ≡ cond b (length (unique_keys (eq_by_cmp nat_cmp) xs)) (suc (length (unique_keys (eq_by_cmp nat_cmp) xs)))
-  by true true h = refl
-  by true false h = let z : true ≡ false = h in cc
-  by false true h = let z : false ≡ true = h in cc
-  by false false h = refl
+never : (a : Bool) → (a && false) ≡ false
+never true = refl
+never false = refl
 
-count_step : (m below rest : Bool) (n l : ℕ) → below ≡ true → n ≤ l → (n == l) ≡ rest → (cond m n (suc n) == suc l) ≡ (below && not m && rest)
-count_step true below rest n l h le e = ne_eqb n (suc l) (λ same. absurd (omega (arith, same, le))) ∙ ap (λ v. v && false && rest) (sym h)
-count_step false below rest n l h le e = next n l ∙ e ∙ ap (λ v. v && true && rest) (sym h) where
-  next : (a b : ℕ) → (suc a == suc b) ≡ (a == b)
-  next a b = grind (arith, nat_tests)
+always : (a : Bool) → (a && true) ≡ a
+always true = refl
+always false = refl
 
-first_of : (a b : Bool) → (a && b) ≡ true → a ≡ true
-first_of true b h = refl
-first_of false b h = h
+-- a flag that is set takes one number
+module _ (taken : List Bool) (n : ℕ) (inside : n < length taken) where
+  free_then : (m : ℕ) → not (get_or (set taken n true) m true) ≡ (not (get_or taken m true) && not (eqb m n))
+  free_then m = elim (cases_Bool (eqb m n)) [
+    | inl hit ↦
+        ap (λ (k : ℕ). not (get_or (set taken n true) k true)) (eqb-true m n hit) ∙ ap (λ b. not b) (get_or-set_same taken n true true inside)
+        ∙ sym (ap (λ b. not (get_or taken m true) && not b) hit ∙ never (not (get_or taken m true)))
+    | inr miss ↦
+        let away : m ≢ n = λ (h : m ≡ n). let z : true ≡ false = sym (eq-eqb m n h) ∙ miss in cc in
+        ap (λ b. not b) (get_or-set_other taken n m true true away) ∙ sym (ap (λ b. not (get_or taken m true) && not b) miss ∙ always (not (get_or taken m true)))
+  ]
 
-rest_of : (a b : Bool) → (a && b) ≡ true → b ≡ true
-rest_of true b h = h
-rest_of false b h = let z : false ≡ true = h in cc
+  free_after : (ns : List ℕ) → all_free (set taken n true) ns ≡ (all_free taken ns && not (list_any (λ m. m == n) ns))
+  free_after [] = refl
+  free_after (m ∷ ms) =
+      two (not (get_or (set taken n true) m true)) (not (get_or taken m true)) (eqb m n) (all_free (set taken n true) ms) (all_free taken ms) (list_any (λ x. x == n) ms) (free_then m) (free_after ms) where
+        two : (a b c d e f : Bool) → a ≡ (b && not c) → d ≡ (e && not f) → (a && d) ≡ ((b && e) && not (c || f))
+        two a true true d e f h k = ap (λ v. v && d) h ∙ sym (never e)
+        two a true false d e f h k = ap (λ v. v && d) h ∙ k
+        two a false c d e f h k = ap (λ v. v && d) h
 
--- where all are below the limit
-pub apart_is : (limit : ℕ) (xs : List ℕ) → list_all (λ n. nat_lt n limit) xs ≡ true → (distinct_count (eq_by_cmp nat_cmp) xs == length xs) ≡ are_apart limit xs
-apart_is limit [] h = refl
-apart_is limit (x ∷ xs) h =
-    ap (λ n. n == suc (length xs)) (one_more x xs)
-    ∙ count_step (list_any (λ m. m == x) xs) (ltb x limit) (are_apart limit xs) (distinct_count (eq_by_cmp nat_cmp) xs) (length xs) (first_of (ltb x limit) (list_all (λ n. nat_lt n limit) xs) h) (distinct_count-le (eq_by_cmp nat_cmp) xs)
-    (apart_is limit xs (rest_of (ltb x limit) (list_all (λ n. nat_lt n limit) xs) h))
+  pub free_rest : (ns : List ℕ) → get_or taken n true ≡ false → are_free (set taken n true) ns ≡ are_free taken (n ∷ ns)
+  free_rest ns free =
+      ap (λ (l : ℕ). all_free (set taken n true) ns && are_apart l ns) (length-set taken n true)
+      ∙ by (get_or taken n true) (all_free (set taken n true) ns) (all_free taken ns) (list_any (λ m. m == n) ns) (ltb n (length taken)) (are_apart (length taken) ns) free (free_after ns) below where
+        below : ltb n (length taken) ≡ true
+        below = grind (arith, nat_tests, inside)
 
-pub not_apart : (limit : ℕ) (xs : List ℕ) → false ≡ list_all (λ n. nat_lt n limit) xs → false ≡ are_apart limit xs
-not_apart limit [] h = h
-not_apart limit (x ∷ xs) h = by (ltb x limit) (not (list_any (λ m. m == x) xs)) (list_all (λ n. nat_lt n limit) xs) (are_apart limit xs) (not_apart limit xs) h where
-  by : (a b c d : Bool) → (false ≡ c → false ≡ d) → false ≡ (a && c) → false ≡ (a && b && d)
-  by true true c d f h = f h
-  by true false c d f h = refl
-  by false b c d f h = refl
+        by : (t a e f l r : Bool) → t ≡ false → a ≡ (e && not f) → l ≡ true → (a && r) ≡ ((not t && e) && (l && not f && r))
+        by true a e f l r h k b = let z : true ≡ false = h in absurd cc
+        by false a true f true r h k b = ap (λ v. v && r) k
+        by false a false f l r h k b = ap (λ v. v && r) k
+        by false a true f false r h k b = let z : false ≡ true = b in absurd cc
+
+-- where one is taken they are not free
+pub not_free : (taken : List Bool) (n : ℕ) (ns : List ℕ) → true ≡ get_or taken n true → false ≡ are_free taken (n ∷ ns)
+not_free taken n ns h = ap (λ t. (not t && all_free taken ns) && are_apart (length taken) (n ∷ ns)) h
+
+none_taken : (limit n : ℕ) → n < limit → get_or (replicate limit false) n true ≡ false
+none_taken zero n h = absurd (omega (arith, h))
+none_taken (suc l) zero h = refl
+none_taken (suc l) (suc n) h = none_taken l n (omega (arith, h))
+
+-- where no flag is set, those are free that are apart
+pub free_at_first : (limit : ℕ) (taken : List Bool) (ns : List ℕ) → taken ≡ replicate limit false → are_free taken ns ≡ are_apart limit ns
+free_at_first limit taken ns is = ap (λ (l : List Bool). are_free l ns) is ∙ ap (λ (n : ℕ). all_free (replicate limit false) ns && are_apart n ns) (long limit) ∙ all ns where
+  long : (n : ℕ) → length (replicate n false) ≡ n
+  long zero = refl
+  long (suc n) = ap (λ (m : ℕ). suc m) (long n)
+
+  by : (t l m a r : Bool) → (l ≡ true → t ≡ false) → (a && r) ≡ r → ((not t && a) && (l && m && r)) ≡ (l && m && r)
+  by t false m a r h k = never (not t && a)
+  by t true false a r h k = never (not t && a)
+  by t true true a r h k = ap (λ v. (not v && a) && r) (h refl) ∙ k
+
+  all : (xs : List ℕ) → (all_free (replicate limit false) xs && are_apart limit xs) ≡ are_apart limit xs
+  all [] = refl
+  all (x ∷ xs) = by (get_or (replicate limit false) x true) (ltb x limit) (not (list_any (λ m. m == x) xs)) (all_free (replicate limit false) xs) (are_apart limit xs)
+      (λ lt. none_taken limit x (grind (arith, nat_tests, lt))) (all xs)

@@ -1,19 +1,13 @@
-//! Whether no cluster is held twice.
+//! The clusters of rows, and whether one is held twice.
 
-ghost use Rattle.std.specs.Prelude.{◌≡◌, ◌++◌, IfOk, OnOk, map, nat_lt};
-ghost use Rattle.std.specs.List.{list_all};
-ghost use Rattle.std.specs.Ordering.{nat_cmp};
-ghost use Rattle.std.specs.BTreeSet.{IsFromIterResult};
-ghost use Rattle.std.specs.Set.{distinct_count};
-ghost use Rattle.std.specs.Ordering.{eq_by_cmp};
+ghost use Rattle.std.specs.Prelude.{◌≡◌, ◌<◌, ◌++◌, IfOk, OnOk, get_or, length, map, replicate, set, true, false};
 ghost use Rattle.cf_model.specs.Standing.{are_apart, clusters_of};
 ghost use Rattle.cf_table.specs.Spelling.{row_value};
-ghost use Rattle.cf_volume_image.specs.ClusterLists.{clusters_in};
+ghost use Rattle.cf_volume_image.specs.ClusterLists.{are_free, clusters_in};
 
 use cf_base::OutOfMemory;
 use cf_table::Row;
-use std::alloc::{AllocError, Global};
-use std::collections::BTreeSet;
+use std::alloc::Global;
 
 fn push_clusters(clusters: &mut Vec<u32>, pairs: &[(u32, u32)]) -> Result<(), OutOfMemory>
     ensures { OnOk result (clusters.new.items ≡ clusters.old.items ++ clusters_in pairs.now) }
@@ -24,7 +18,8 @@ fn push_clusters(clusters: &mut Vec<u32>, pairs: &[(u32, u32)]) -> Result<(), Ou
     Ok(())
 }
 
-fn clusters_of(alloc: Global, rows: &[Row]) -> Result<Vec<u32>, OutOfMemory>
+/// The clusters of the blocks of rows, row by row. OutOfMemory where there is none.
+pub fn clusters_of(alloc: Global, rows: &[Row]) -> Result<Vec<u32>, OutOfMemory>
     ensures { IfOk result (λ v. v.items ≡ clusters_of (map row_value rows.now)) }
 {
     let mut clusters = Vec::new(alloc);
@@ -34,32 +29,48 @@ fn clusters_of(alloc: Global, rows: &[Row]) -> Result<Vec<u32>, OutOfMemory>
     Ok(clusters)
 }
 
-fn distinct_of(alloc: Global, clusters: &[u32]) -> Result<BTreeSet<u32>, AllocError>
-    ensures { IfOk result (IsFromIterResult nat_cmp clusters.now) }
+// A flag for each of so many clusters, of which none is taken.
+fn none_taken(alloc: Global, limit: u32) -> Result<Vec<bool>, OutOfMemory>
+    ensures { IfOk result (λ v. v.items ≡ replicate limit false) }
 {
-    clusters.iter().copied().collect(alloc)
+    Ok(vec![in alloc; false; limit as usize]?)
 }
 
-fn count_distinct(alloc: Global, clusters: &[u32]) -> Result<usize, OutOfMemory>
-    ensures { IfOk result (λ n. n ≡ distinct_count (eq_by_cmp nat_cmp) clusters.now) }
+// Whether a cluster is taken, or has no flag.
+fn is_taken(taken: &[bool], cluster: u32) -> bool
+    ensures { result ≡ get_or taken.now cluster true }
 {
-    let distinct = distinct_of(alloc, clusters)?;
-    Ok(distinct.len())
+    match taken.get(cluster as usize) {
+        Some(taken) => *taken,
+        None => true,
+    }
 }
 
-fn are_below(clusters: &[u32], limit: u32) -> bool
-    ensures { result ≡ list_all (λ n. nat_lt n limit) clusters.now }
+fn take(taken: &mut [bool], cluster: u32)
+    requires { cluster < length taken.old }
+    ensures { taken.new ≡ set taken.old cluster true }
 {
-    clusters.iter().all(|cluster| *cluster < limit)
+    taken[cluster as usize] = true;
+}
+
+// Takes one after the other, and says whether each was free then.
+fn take_each(taken: &mut [bool], clusters: &[u32]) -> bool
+    ensures { result ≡ are_free taken.old clusters.now }
+{
+    for cluster in clusters {
+        if is_taken(taken, *cluster) {
+            return false;
+        }
+        take(taken, *cluster);
+    }
+    true
 }
 
 fn no_two(alloc: Global, clusters: &[u32], limit: u32) -> Result<bool, OutOfMemory>
     ensures { IfOk result (λ b. b ≡ are_apart limit clusters.now) }
 {
-    if !are_below(clusters, limit) {
-        return Ok(false);
-    }
-    Ok(count_distinct(alloc, clusters)? == clusters.len())
+    let mut taken = none_taken(alloc, limit)?;
+    Ok(take_each(&mut taken, clusters))
 }
 
 /// Whether no two blocks of the rows have one cluster, and each has one of so many.

@@ -30,6 +30,7 @@ mod sound;
 mod sound_rows;
 mod trees;
 
+pub use clusters::clusters_of;
 pub use contents::Contents;
 pub use failures::ImageError;
 pub use images::{read_image, spell_image};

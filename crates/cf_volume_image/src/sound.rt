@@ -27,15 +27,15 @@ const MOST_IMAGE_BYTES: u64 = 1_306_624;
 
 const MOST_FIRST_IMAGE_BYTES: u64 = 1_044_480;
 
-fn are_sound(alloc: Global, rows: &[Row], next: ItemId, last: Usn) -> Result<bool, OutOfMemory>
-    ensures { (h : Header) → h.next ≡ next → h.last ≡ last → IfOk result (λ b. Decides b (AreSound h (map row_value rows.now))) }
+fn are_sound(rows: &[Row], next: ItemId, last: Usn) -> bool
+    ensures { (h : Header) → h.next ≡ next → h.last ≡ last → Decides result (AreSound h (map row_value rows.now)) }
 {
     for row in rows {
-        if !is_sound_row(alloc, row, next, last)? {
-            return Ok(false);
+        if !is_sound_row(row, next, last) {
+            return false;
         }
     }
-    Ok(true)
+    true
 }
 
 fn hold_bytes(rows: &[Row]) -> bool
@@ -85,7 +85,7 @@ pub(crate) fn is_sound(
     if !is_small(contents, format) {
         return Ok(false);
     }
-    if !are_sound(alloc, rows, contents.rows.next(), contents.last)? {
+    if !are_sound(rows, contents.rows.next(), contents.last) {
         return Ok(false);
     }
     if !is_tree(&contents.rows) {

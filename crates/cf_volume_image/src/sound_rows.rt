@@ -1,6 +1,6 @@
 //! Whether a row is sound.
 
-ghost use Rattle.std.specs.Prelude.{◌≡◌, ◌<◌, IfOk, true, false, unwrap_or};
+ghost use Rattle.std.specs.Prelude.{◌≡◌, ◌<◌, true, false, unwrap_or};
 ghost use Rattle.std.specs.Bool.{Decides};
 ghost use Rattle.cf_model.specs.Numbers.{above};
 ghost use Rattle.cf_model.specs.Rows.{IsSoundRow};
@@ -9,9 +9,8 @@ ghost use Rattle.cf_table.specs.Spelling.{row_value};
 ghost use Rattle.cf_volume_image.specs.RowTests.{AreSmall, HasSoundName, HasSoundNumbers, HasSoundSets, IsBareRow, IsPlainRow, IsSoundButName, IsSoundFile};
 
 use crate::sets::{has_all, has_span, is_below};
-use cf_base::{CallError, Code, ItemId, Name, OutOfMemory, Usn};
+use cf_base::{ItemId, Usn, is_name};
 use cf_table::{NO_USN, ROOT, Row};
-use std::alloc::Global;
 
 const MOST_IDENTITY_BYTES: usize = 4096;
 
@@ -29,24 +28,21 @@ fn has_sound_numbers(row: &Row, next: ItemId, last: Usn) -> bool
     row.id.0 < next.0 && !is_above(row.number, last) && !is_above(row.anchor, last)
 }
 
-fn is_name(alloc: Global, name: &[u8]) -> Result<bool, OutOfMemory>
-    ensures { IfOk result (λ b. b ≡ is_name name.now) }
+// A law ties the two definitions of a name.
+fn is_item_name(name: &[u8]) -> bool
+    ensures { result ≡ is_name name.now }
 {
-    match Name::read(alloc, name) {
-        Ok(_) => Ok(true),
-        Err(CallError::OutOfMemory) => Err(OutOfMemory),
-        Err(CallError::No(_)) => Ok(false),
-    }
+    is_name(name)
 }
 
-fn has_sound_name(alloc: Global, row: &Row) -> Result<bool, OutOfMemory>
-    ensures { IfOk result (λ b. Decides b (HasSoundName row.now)) }
+fn has_sound_name(row: &Row) -> bool
+    ensures { Decides result (HasSoundName row.now) }
 {
     let name = row.name.as_slice();
     if row.id.0 == ROOT.0 {
-        return Ok(name.is_empty());
+        return name.is_empty();
     }
-    is_name(alloc, name)
+    is_item_name(name)
 }
 
 fn is_small(row: &Row) -> bool
@@ -114,16 +110,11 @@ fn is_sound_but_name(row: &Row, next: ItemId, last: Usn) -> bool
 }
 
 /// Whether the row is one of a volume whose next item and last number these are.
-pub(crate) fn is_sound_row(
-    alloc: Global,
-    row: &Row,
-    next: ItemId,
-    last: Usn,
-) -> Result<bool, OutOfMemory>
-    ensures { IfOk result (λ b. Decides b (IsSoundRow next last (row_value row.now))) }
+pub(crate) fn is_sound_row(row: &Row, next: ItemId, last: Usn) -> bool
+    ensures { Decides result (IsSoundRow next last (row_value row.now)) }
 {
-    if !has_sound_name(alloc, row)? {
-        return Ok(false);
+    if !has_sound_name(row) {
+        return false;
     }
-    Ok(is_sound_but_name(row, next, last))
+    is_sound_but_name(row, next, last)
 }

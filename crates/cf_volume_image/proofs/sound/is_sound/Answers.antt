@@ -13,10 +13,10 @@ use Rattle.cf_volume_image.proofs.sound.is_sound.Goals as goal
 pub returns-then-not-is_small : goal.returns-then-not-is_small
 returns-then-not-is_small c = (λ z. let w : false ≡ true = z in absurd cc, λ s. c.if-not-is_small.ensures.1 (small_of c.args.format c.args.clusters c.args.contents.now s))
 
-pub returns-then-not-branch : goal.returns-then-not-branch
-returns-then-not-branch c = (
+pub returns-then-not-are_sound : goal.returns-then-not-are_sound
+returns-then-not-are_sound c = (
   λ z. let w : false ≡ true = z in absurd cc,
-  λ s. sym c.if-not-branch.true ∙ (c.in_ok-are_sound.ensures (header_of c.args.contents.now) (sym c.next.ensures) refl).1
+  λ s. (c.if-not-are_sound.ensures (header_of c.args.contents.now) (sym c.next.ensures) refl).1
       (subst (λ (l : List Row). AreSound (header_of c.args.contents.now) (map row_value l)) (sym c.as_slice-rows.ensures.value) s.rows),
 )
 
@@ -27,7 +27,7 @@ returns-then-not-is_tree c = (
 )
 
 pub hold_bytes-requires : goal.hold_bytes-requires
-hold_bytes-requires c = all_below (header_of c.args.contents.now) c.as_slice-rows.result.now ((c.in_ok-are_sound.ensures (header_of c.args.contents.now) (sym c.next.ensures) refl).0 c.if-not-branch.false)
+hold_bytes-requires c = all_below (header_of c.args.contents.now) c.as_slice-rows.result.now ((c.are_sound.ensures (header_of c.args.contents.now) (sym c.next.ensures) refl).0 c.if-not-are_sound.false)
 
 pub returns-then-not-hold_bytes : goal.returns-then-not-hold_bytes
 returns-then-not-hold_bytes c = (
@@ -37,7 +37,7 @@ returns-then-not-hold_bytes c = (
 
 pub returns : goal.returns
 returns c =
-    let sound = (c.in_ok-are_sound.ensures (header_of c.args.contents.now) (sym c.next.ensures) refl).0 c.if-not-branch.false in
+    let sound = (c.are_sound.ensures (header_of c.args.contents.now) (sym c.next.ensures) refl).0 c.if-not-are_sound.false in
     decided c.are_apart.result (are_apart c.args.clusters (clusters_of (map row_value c.as_slice-rows.result.now))) (IsSoundIn c.args.format c.args.clusters (image_of c.args.contents.now)) c.are_apart.ensures (
       λ yes. sound_of c.args.format c.args.clusters c.args.contents.now (c.is_small.ensures.0 c.if-not-is_small.false)
           (subst (λ (l : List Row). AreSound (header_of c.args.contents.now) (map row_value l)) c.as_slice-rows.ensures.value sound)
