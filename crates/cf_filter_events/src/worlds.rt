@@ -1,8 +1,9 @@
 //! The world, on and off.
 #![tactic(auto, using(crate::proofs::Wholes::begins))]
 
-ghost use Rattle.std.specs.Prelude.{◌≡◌, ℕ, List, Some, true, IfErr, IfOk};
-ghost use Rattle.cf_filter_events.specs.Counted.{CountsBy, CountsOver, GoesOn, arms, arms_in};
+ghost use Rattle.std.specs.Prelude.{◌≡◌, ℕ, List, Some, false, true, IfErr, IfOk};
+ghost use Rattle.cf_filter_events.specs.Actors.{is_device_event};
+ghost use Rattle.cf_filter_events.specs.Counted.{CountsBy, CountsOver, GoesOn, arms_in};
 ghost use Rattle.cf_filter_events.specs.Faulted.{Faults, FaultsTo};
 ghost use Rattle.cf_filter_events.specs.Meaning.{Is};
 ghost use Rattle.cf_filter_events.specs.Pasts.{Past, StandsFor};
@@ -75,9 +76,45 @@ impl<D: Disk, A: Actor> Acting<D, A> {
         ensures whole { KeepsWhole (Is A.acts D.state) self result.0 }
         ensures newest { OpensNewest (Is A.acts D.state) event.now self result.1 }
     {
+        match event {
+            Event::Device(device) => self.bear(alloc, *device),
+            event => {
+                let mut world = self;
+                let told = world.act(alloc, event);
+                (world, told)
+            }
+        }
+    }
+
+    /// Does an event that is none of the device, as `step` does, where the world stands in memory.
+    pub fn act(&mut self, alloc: Global, event: &Event) -> Result<Answer, OutOfMemory>
+        requires of { is_of A.acts.mode event.now ≡ true }
+        requires other { is_device_event event.now ≡ false }
+        ensures steps { StepsOver A.acts.mode (Is A.acts D.state) event.now self.old result self.new }
+        ensures device { Bears event.now (D.state (disk_of self.old)) (D.state (disk_of self.new)) }
+        ensures counts { CountsOver (Is A.acts D.state) event.now self.old result (D.state (disk_of self.old)) (D.state (disk_of self.new)) }
+        ensures faults { Faults (Is A.acts D.state) self.old result (A.acts.remote (actor_of self.old)) (A.acts.remote (actor_of self.new)) }
+        ensures whole { KeepsWhole (Is A.acts D.state) self.old self.new }
+        ensures newest { OpensNewest (Is A.acts D.state) event.now self.old result }
+    {
         match self {
-            Acting::On(running) => step_on(alloc, running, event),
-            Acting::Off(cut) => step_off(alloc, cut, event),
+            Acting::On(running) => running.act(alloc, event),
+            Acting::Off(cut) => cut.act(alloc, event),
+        }
+    }
+
+    // An event of the device.
+    fn bear(self, alloc: Global, event: DeviceEvent) -> (Acting<D, A>, Result<Answer, OutOfMemory>)
+        ensures steps { StepsOver A.acts.mode (Is A.acts D.state) (events.Device event) self result.1 result.0 }
+        ensures device { BearsOn event (D.state (disk_of self)) (D.state (disk_of result.0)) }
+        ensures counts { CountsBy (arms_in event) result.1 (D.state (disk_of self)) (D.state (disk_of result.0)) }
+        ensures faults { FaultsTo result.1 (A.acts.remote (actor_of self)) (A.acts.remote (actor_of result.0)) }
+        ensures whole { KeepsWhole (Is A.acts D.state) self result.0 }
+        ensures newest { OpensNewest (Is A.acts D.state) (events.Device event) self result.1 }
+    {
+        match self {
+            Acting::On(running) => device_on(alloc, running, event),
+            Acting::Off(cut) => device_off(alloc, cut, event),
         }
     }
 
@@ -111,29 +148,7 @@ impl<D: Disk, A: Actor> Acting<D, A> {
     }
 }
 
-// An event while the volume is open.
-fn step_on<D: Disk, A: Actor>(
-    alloc: Global,
-    mut running: Running<D, A>,
-    event: &Event,
-) -> (Acting<D, A>, Result<Answer, OutOfMemory>)
-    requires { is_of A.acts.mode event.now ≡ true }
-    ensures steps { StepsOver A.acts.mode (Is A.acts D.state) event.now (acting.On running) result.1 result.0 }
-    ensures device { Bears event.now (D.state running.filter.disk) (D.state (disk_of result.0)) }
-    ensures counts { CountsOver (Is A.acts D.state) event.now (acting.On running) result.1 (D.state running.filter.disk) (D.state (disk_of result.0)) }
-    ensures faults { Faults (Is A.acts D.state) (acting.On running) result.1 (A.acts.remote running.actor) (A.acts.remote (actor_of result.0)) }
-    ensures whole { KeepsWhole (Is A.acts D.state) (acting.On running) result.0 }
-    ensures newest { OpensNewest (Is A.acts D.state) event.now (acting.On running) result.1 }
-{
-    match event {
-        Event::Device(device) => device_on(alloc, running, *device),
-        event => {
-            let told = running.act(alloc, event);
-            (Acting::On(running), told)
-        }
-    }
-}
-
+// An event of the device while the volume is open.
 fn device_on<D: Disk, A: Actor>(
     alloc: Global,
     mut running: Running<D, A>,
@@ -162,29 +177,7 @@ fn device_on<D: Disk, A: Actor>(
     }
 }
 
-// An event while the volume is off.
-fn step_off<D: Disk, A: Actor>(
-    alloc: Global,
-    mut cut: Cut<D, A>,
-    event: &Event,
-) -> (Acting<D, A>, Result<Answer, OutOfMemory>)
-    requires { is_of A.acts.mode event.now ≡ true }
-    ensures steps { StepsOver A.acts.mode (Is A.acts D.state) event.now (acting.Off cut) result.1 result.0 }
-    ensures device { Bears event.now (D.state cut.disk) (D.state (disk_of result.0)) }
-    ensures counts { CountsBy (arms event.now) result.1 (D.state cut.disk) (D.state (disk_of result.0)) }
-    ensures faults { Faults (Is A.acts D.state) (acting.Off cut) result.1 (A.acts.remote cut.actor) (A.acts.remote (actor_of result.0)) }
-    ensures whole { cut.whole ≡ true → whole_of result.0 ≡ true }
-    ensures newest { OpensNewest (Is A.acts D.state) event.now (acting.Off cut) result.1 }
-{
-    match event {
-        Event::Device(device) => device_off(alloc, cut, *device),
-        event => {
-            let told = cut.act(alloc, event);
-            (Acting::Off(cut), told)
-        }
-    }
-}
-
+// An event of the device while the volume is off.
 fn device_off<D: Disk, A: Actor>(
     alloc: Global,
     mut cut: Cut<D, A>,

@@ -18,12 +18,12 @@ use Rattle.cf_remote.specs.Told.{Told}
 use Rattle.cf_script.specs.Script.{lines_of}
 use Rattle.cf_script.specs.declared.script_errors.ScriptError.{ScriptError}
 use Rattle.cf_script.specs.declared.script_errors.ScriptError.TheVariants as fails
-use Rattle.cf_world_scripts.proofs.OfTexts.{short_enough}
+use Rattle.cf_world_plays.proofs.OfTexts.{short_enough}
 use Rattle.cf_world_devices.proofs.Sources.{long_text, not_quiet, some_text, whole_text}
-use Rattle.cf_world_scripts.specs.Runs.{IsAfterReading, IsComplete, IsUnfit, fail_line, most_script}
-use Rattle.cf_world_scripts.specs.Steps.{early_status, play_status, read_status}
-use Rattle.cf_world_scripts.specs.declared.play_errors.PlayError.{PlayError}
-use Rattle.cf_world_scripts.specs.declared.play_errors.PlayError.TheVariants as plays
+use Rattle.cf_world_plays.specs.Runs.{IsAfterReading, IsComplete, IsUnfit, fail_line, most_script}
+use Rattle.cf_world_plays.specs.Steps.{early_status, play_status, read_status}
+use Rattle.cf_world_plays.specs.declared.play_errors.PlayError.{PlayError}
+use Rattle.cf_world_plays.specs.declared.play_errors.PlayError.TheVariants as plays
 
 -- refusals
 

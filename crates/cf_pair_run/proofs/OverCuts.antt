@@ -15,7 +15,7 @@ use Rattle.cf_pair_run.specs.Led.{RunsOver}
 use Rattle.cf_pair_settled.specs.Settled.{SaysEqual}
 use Rattle.cf_pair_traces.specs.Pairs.{IsPairStep, Pair, PairRuns}
 use Rattle.cf_pair_world.specs.Owned.{PowerBy, own}
-use Rattle.cf_world_scripts.proofs.OverPowers.{power_last, power_more, same_last}
+use Rattle.cf_world_plays.proofs.OverPowers.{power_last, power_more, same_last}
 
 -- more power cuts behind those of an event
 by_more : (last : Option (List ℕ)) (o : Option (Event × Answer)) (t : State) (powers : List (Choice × List ℕ)) (after : Option (List ℕ)) (rest more : List (Choice × List ℕ)) → PowerBy last o t powers after rest → PowerBy last o t (powers ++ more) after (rest ++ more)

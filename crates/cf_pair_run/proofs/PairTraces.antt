@@ -16,10 +16,10 @@ use Rattle.cf_pair_run.specs.UnderWay.{FrontPlayed, IsPut, IsUnderWay, PutFails,
 use Rattle.cf_pair_world.specs.Steps.{Steps}
 use Rattle.cf_pair_world.specs.declared.worlds.PairWorld.{PairWorld}
 use Rattle.cf_remote.specs.Told.{Told}
-use Rattle.cf_world_scripts.proofs.Drafted.{drafted_stops_here}
-use Rattle.cf_world_scripts.specs.Steps.{IsDrafted}
-use Rattle.cf_world_scripts.specs.declared.play_errors.PlayError.{PlayError}
-use Rattle.cf_world_scripts.specs.declared.play_errors.PlayError.TheVariants as play
+use Rattle.cf_world_plays.proofs.Drafted.{drafted_stops_here}
+use Rattle.cf_world_plays.specs.Steps.{IsDrafted}
+use Rattle.cf_world_plays.specs.declared.play_errors.PlayError.{PlayError}
+use Rattle.cf_world_plays.specs.declared.play_errors.PlayError.TheVariants as play
 
 next_rest : (all : List PairEvent) (i : ℕ) (event : PairEvent) → event ≡ get_or all i event → i < length all → drop i all ≡ event ∷ drop (suc i) all
 next_rest all i event item lt = drop-cons all i event lt ∙ ap (λ x. x ∷ drop (suc i) all) (sym item)

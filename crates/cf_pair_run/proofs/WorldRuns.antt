@@ -30,9 +30,9 @@ use Rattle.cf_pair_world.specs.declared.worlds.PairWorld.{PairWorld}
 use Rattle.cf_remote.specs.Peers.{IsHeld}
 use Rattle.cf_remote.specs.Told.{Told}
 use Rattle.cf_volume_points.specs.Standing.{clusters_for}
-use Rattle.cf_world_scripts.proofs.Counted.{armed_more, armed_none, at_most, met_more, met_none}
-use Rattle.cf_world_scripts.proofs.OverPowers.{gains_then, last_then}
-use Rattle.cf_world_scripts.specs.Led.{FailsArmed, armed_after, met_by}
+use Rattle.cf_world_plays.proofs.Counted.{armed_more, armed_none, at_most, met_more, met_none}
+use Rattle.cf_world_plays.proofs.OverPowers.{gains_then, last_then}
+use Rattle.cf_world_plays.specs.Led.{FailsArmed, armed_after, met_by}
 
 -- one more event
 

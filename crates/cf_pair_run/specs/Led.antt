@@ -30,7 +30,7 @@ use Rattle.cf_pair_world.specs.declared.worlds.PairWorld.{PairWorld}
 use Rattle.cf_remote.specs.Peers.{IsHeld}
 use Rattle.cf_remote.specs.Told.{Told}
 use Rattle.cf_volume_points.specs.Standing.{clusters_for}
-use Rattle.cf_world_scripts.specs.Led.{FailsArmed, armed_after, met_by}
+use Rattle.cf_world_plays.specs.Led.{FailsArmed, armed_after, met_by}
 
 -- the events of one device, with their answers
 

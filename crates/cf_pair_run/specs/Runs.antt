@@ -18,7 +18,7 @@ use Rattle.cf_script.specs.Script.{lines_of}
 use Rattle.cf_script.specs.declared.script_errors.ScriptError.{ScriptError}
 use Rattle.cf_script.specs.declared.script_errors.ScriptError.TheVariants as fails
 use Rattle.cf_volume_points.specs.Standing.{clusters_for}
-use Rattle.cf_world_scripts.specs.Runs.{IsComplete, IsLength, IsUnfit, fail_line, most_report, most_script}
+use Rattle.cf_world_plays.specs.Runs.{IsComplete, IsLength, IsUnfit, fail_line, most_report, most_script}
 use Rattle.cf_world_devices.specs.Sizes.{IsFit}
 
 abbrev pub Trace : Type 0

@@ -12,10 +12,10 @@ use Rattle.cf_pair_run.specs.Led.{HasRun}
 use Rattle.cf_pair_run.specs.Runs.{IsLawful, Refuses, RefusesFront, Trace, events_of, report_of}
 use Rattle.cf_pair_world.specs.declared.worlds.PairWorld.{PairWorld}
 use Rattle.cf_remote.specs.Told.{Told}
-use Rattle.cf_world_scripts.specs.Runs.{most_report}
-use Rattle.cf_world_scripts.specs.Steps.{AddFails, IsDrafted}
-use Rattle.cf_world_scripts.specs.declared.play_errors.PlayError.{PlayError}
-use Rattle.cf_world_scripts.specs.declared.play_errors.PlayError.TheVariants as play
+use Rattle.cf_world_plays.specs.Runs.{most_report}
+use Rattle.cf_world_plays.specs.Steps.{AddFails, IsDrafted}
+use Rattle.cf_world_plays.specs.declared.play_errors.PlayError.{PlayError}
+use Rattle.cf_world_plays.specs.declared.play_errors.PlayError.TheVariants as play
 
 -- Some first events were done, and the rest is still to do. Of the texts of their answers a front was written, and what follows waits.
 pub record IsUnderWay {D R : Type 0} (state : D → Disk) (told : R → Told) (first second : D) (remote : R) (events rest : List PairEvent) (waiting : List ℕ) (made : ℕ) (old now : Option (List ℕ)) (w : PairWorld D R) : Type 0 where

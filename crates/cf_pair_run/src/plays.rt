@@ -7,7 +7,7 @@ ghost use Rattle.cf_pair_report.specs.Texts.{text as text_of};
 ghost use Rattle.cf_pair_run.specs.Led.{HasRun};
 ghost use Rattle.cf_pair_run.specs.UnderWay.{AllPlayed, IsPut, PutFails, SomePlayed};
 ghost use Rattle.cf_pair_world.specs.Owned.{is_playable};
-ghost use Rattle.cf_world_scripts.specs.Steps.{AddFails, IsDrafted};
+ghost use Rattle.cf_world_plays.specs.Steps.{AddFails, IsDrafted};
 
 use cf_base::OutOfMemory;
 use cf_disk::Disk;
@@ -16,7 +16,7 @@ use cf_pair_events::{PairAnswer, PairEvent};
 use cf_pair_report::text;
 use cf_pair_world::PairWorld;
 use cf_remote::Remote;
-use cf_world_scripts::{PlayError, add};
+use cf_world_plays::{PlayError, add};
 use std::alloc::Global;
 
 /// Does the events in a world in which nothing has happened, and writes the text of each answer.

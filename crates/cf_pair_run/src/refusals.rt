@@ -9,7 +9,7 @@ ghost use Rattle.cf_script.specs.Script.{lines_of};
 use cf_base::Status;
 use cf_io::Sink;
 use cf_script::ScriptError;
-use cf_world_scripts::{early, write_fail};
+use cf_world_plays::{early, write_fail};
 use std::alloc::Global;
 
 /// Writes why the script is not read.

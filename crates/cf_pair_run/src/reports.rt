@@ -7,7 +7,7 @@ ghost use Rattle.cf_journal.specs.Settled.{IsFitSize};
 ghost use Rattle.cf_pair_run.specs.Led.{HasRun};
 ghost use Rattle.cf_pair_run.specs.Runs.{WritesOf};
 ghost use Rattle.cf_pair_script.specs.PairScript.{IsScript};
-ghost use Rattle.cf_world_scripts.specs.Runs.{IsOfReport, IsPlayed, most_script};
+ghost use Rattle.cf_world_plays.specs.Runs.{IsOfReport, IsPlayed, most_script};
 
 use crate::plays::play;
 use crate::runs::PairFinish;
@@ -17,7 +17,7 @@ use cf_io::Sink;
 use cf_pair_events::PairEvent;
 use cf_pair_world::PairWorld;
 use cf_remote::Remote;
-use cf_world_scripts::{status_of, unstarted};
+use cf_world_plays::{status_of, unstarted};
 use std::alloc::Global;
 
 /// Makes a volume on each disk, does the events, and writes the report. A start that a device stops is DeviceFault.

@@ -4,7 +4,7 @@ ghost use Rattle.std.specs.Prelude.{◌≡◌, ◌≢◌, ◌⊎◌, ℕ, List, 
 ghost use Rattle.cf_disk.specs.Disk.{HasFailed};
 ghost use Rattle.cf_io.specs.Moves.{IsQuiet, IsWhole, Rose};
 ghost use Rattle.cf_pair_run.specs.Runs.{AreFit, OfText};
-ghost use Rattle.cf_world_scripts.specs.Runs.{IsBeforeEvents};
+ghost use Rattle.cf_world_plays.specs.Runs.{IsBeforeEvents};
 ghost use Rattle.cf_world_devices.specs.Ends.{IsBeforeDevice, IsBeforeWriting};
 
 use crate::scripts::scripted;
@@ -12,7 +12,7 @@ use cf_base::Status;
 use cf_disk::Disk;
 use cf_io::{Sink, Source, read_all};
 use cf_remote::Remote;
-use cf_world_scripts::{MOST_SCRIPT_BYTES, unscripted};
+use cf_world_plays::{MOST_SCRIPT_BYTES, unscripted};
 use std::alloc::Global;
 
 /// How a run ended, and the devices' disks and the remote that it leaves.

@@ -6,7 +6,7 @@ ghost use Rattle.cf_io.specs.Moves.{IsQuiet, Rose};
 ghost use Rattle.cf_pair_events.specs.declared.events.PairEvent.{PairEvent as Event};
 ghost use Rattle.cf_pair_run.specs.Runs.{AreFit, WritesOf};
 ghost use Rattle.cf_pair_script.specs.PairScript.{IsScript};
-ghost use Rattle.cf_world_scripts.specs.Runs.{IsAfterReading, IsBeforeEvents, IsComplete, IsStarted, IsUnfit, most_script};
+ghost use Rattle.cf_world_plays.specs.Runs.{IsAfterReading, IsBeforeEvents, IsComplete, IsStarted, IsUnfit, most_script};
 ghost use Rattle.cf_world_devices.specs.Ends.{IsBeforeDevice, IsBeforeWriting};
 ghost use Rattle.cf_world_devices.specs.Sizes.{IsFit};
 

@@ -17,8 +17,8 @@ use Rattle.cf_world_devices.proofs.Sources.{long_text, not_quiet, some_text, who
 use Rattle.cf_world.proofs.Parted.{not_both, one_script}
 use Rattle.cf_world.specs.Checks.{CheckWrites, HasLine, HasNoMark, IsJudged, IsParted, IsRecording, OfCheck, clusters, most_checked, unmarked_line, verdict_line, verdict_status}
 use Rattle.cf_world.specs.Judged.{PutsLine, PutsVerdict}
-use Rattle.cf_world_scripts.specs.Runs.{WritesRefusal}
-use Rattle.cf_world_scripts.specs.Steps.{read_status}
+use Rattle.cf_world_plays.specs.Runs.{WritesRefusal}
+use Rattle.cf_world_plays.specs.Steps.{read_status}
 
 -- the statuses of verdicts
 

@@ -16,7 +16,7 @@ use Rattle.cf_check_model.specs.declared.verdicts.Verdict.{Verdict}
 use Rattle.cf_check_model.specs.declared.verdicts.Verdict.TheVariants.{Lawful, Unlawful, Undecided}
 use Rattle.cf_io.specs.Moves.{Adds, AddsFront}
 use Rattle.cf_script.specs.Script.{IsScript, lines_of}
-use Rattle.cf_world_scripts.specs.Runs.{IsRefusal}
+use Rattle.cf_world_plays.specs.Runs.{IsRefusal}
 
 -- the greatest length of a text, in bytes: those of a script, of the line with the mark, and of a report
 abbrev pub most_checked : ℕ

@@ -13,10 +13,10 @@ use Rattle.cf_io.specs.Moves.{IsFront, IsWhole}
 use Rattle.cf_remote.specs.Told.{Told}
 use Rattle.cf_world.specs.Checks.{OfCheck}
 use Rattle.cf_world_devices.specs.Migrations.{OfDevice}
-use Rattle.cf_world_scripts.specs.Outputs.{OfText}
+use Rattle.cf_world_plays.specs.Outputs.{OfText}
 use Rattle.cf_world_devices.specs.Scrubs.{OfScrub, most_judged}
-use Rattle.cf_world_scripts.specs.declared.outputs.Ending.TheVariants as ending
-use Rattle.cf_world_scripts.specs.declared.outputs.Output.TheVariants as output
+use Rattle.cf_world_plays.specs.declared.outputs.Ending.TheVariants as ending
+use Rattle.cf_world_plays.specs.declared.outputs.Output.TheVariants as output
 
 -- All that holds of what the source had left, where it reports that, by how the run ended: of a script, of the bytes of a device, or
 -- of a script that was made without the source. Only `filter`, `migrate`, `scrub` and `check` do not use the remote, and only `scrub` and

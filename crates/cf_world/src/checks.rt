@@ -16,7 +16,7 @@ use cf_check_world::{Difference, Judgement, check};
 use cf_io::{Sink, Source, read_all};
 use cf_script::{ScriptError, read};
 use cf_world_devices::written;
-use cf_world_scripts::{early, refuse, unscripted, write_fail};
+use cf_world_plays::{early, refuse, unscripted, write_fail};
 use std::alloc::{AllocError, Global};
 
 /// The most bytes of a script with its report.

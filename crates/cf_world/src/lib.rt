@@ -6,7 +6,7 @@
 //! that a restart may open, that the remote holds what the last state has, and that the answers report exactly the asks that fail,
 //! where the remote lists these. Where the sink failed or the report is too long it promises the same of the events that were done; and
 //! it names the cause of each status but Done. What a lawful answer is, `cf_model` says; what a user may rely on, `cf_model_headline`;
-//! what a script writes, `cf_world_scripts`; what each command does, specs/Commands.
+//! what a script writes, `cf_world_plays`; what each command does, specs/Commands.
 #![tactic(auto)]
 
 mod checks;

@@ -11,12 +11,12 @@ ghost use Rattle.cf_cli.specs.declared.commands.Command.TheVariants as meant;
 ghost use Rattle.cf_world.specs.Checks.{OfCheck};
 ghost use Rattle.cf_world.specs.Commands.{OfCommand, words_status};
 ghost use Rattle.cf_world_devices.specs.Migrations.{OfDevice};
-ghost use Rattle.cf_world_scripts.specs.Outputs.{OfText};
-ghost use Rattle.cf_world_scripts.specs.Runs.{IsBeforeEvents};
+ghost use Rattle.cf_world_plays.specs.Outputs.{OfText};
+ghost use Rattle.cf_world_plays.specs.Runs.{IsBeforeEvents};
 ghost use Rattle.cf_world_devices.specs.Ends.{IsBeforeDevice, IsBeforeWriting};
 ghost use Rattle.cf_world_devices.specs.Sizes.{IsFit};
-ghost use Rattle.cf_world_scripts.specs.declared.outputs.Ending.TheVariants as endings;
-ghost use Rattle.cf_world_scripts.specs.declared.outputs.Output.TheVariants as outputs;
+ghost use Rattle.cf_world_plays.specs.declared.outputs.Ending.TheVariants as endings;
+ghost use Rattle.cf_world_plays.specs.declared.outputs.Output.TheVariants as outputs;
 
 use crate::checks::{Checked, check_report};
 use cf_base::{Mode, Status};
@@ -26,7 +26,8 @@ use cf_gen::{gen_script, made_script_is_short, made_script_spells};
 use cf_io::{Sink, Source};
 use cf_remote::Remote;
 use cf_world_devices::{judge, migrate};
-use cf_world_scripts::{Ending, Finish, Output, scripted, sourced};
+use cf_world_plays::{Ending, Output};
+use cf_world_scripts::{Finish, scripted, sourced};
 use std::alloc::Global;
 
 /// Does what the words after the program's name say. `replay` and `filter` read a script from the source, do its events on the disk and

@@ -1,35 +1,29 @@
 //! A script that is read and done, by the command that it is for.
 
-ghost use Rattle.std.specs.Prelude.{◌≡◌, ◌≢◌, ◌≤◌, ◌+◌, IsTrue, List, None, length};
-ghost use Rattle.std.specs.List.{list_all};
+ghost use Rattle.std.specs.Prelude.{◌≡◌, ◌≢◌, ◌≤◌, ◌+◌, List, None, length};
 ghost use Rattle.cf_base.specs.declared.events.Event.{Event};
 ghost use Rattle.cf_base.specs.declared.policies.Mode.TheVariants as modes;
 ghost use Rattle.cf_disk.specs.Disk.{HasFailed, size_of};
 ghost use Rattle.cf_io.specs.Moves.{IsQuiet, Rose};
 ghost use Rattle.cf_journal.specs.Settled.{IsFitSize};
-ghost use Rattle.cf_model.specs.Events.{is_of};
 ghost use Rattle.cf_script.specs.Script.{IsScript};
-ghost use Rattle.cf_world_scripts.specs.Outputs.{WritesAs, WritesAsBy};
-ghost use Rattle.cf_world_scripts.specs.Runs.{IsAfterReading, IsBeforeEvents, IsComplete, IsPlayed, IsStarted, IsUnfit, WritesOf, most_script};
+ghost use Rattle.cf_world_plays.specs.Outputs.{WritesAs};
+ghost use Rattle.cf_world_plays.specs.Runs.{IsAfterReading, IsBeforeEvents, IsComplete, IsPlayed, IsStarted, IsUnfit, WritesOf, most_script};
 ghost use Rattle.cf_world_devices.specs.Ends.{IsBeforeDevice, IsBeforeWriting};
 ghost use Rattle.cf_world_devices.specs.Sizes.{IsFit};
-ghost use Rattle.cf_world_scripts.specs.declared.outputs.Ending.TheVariants as endings;
-ghost use Rattle.cf_world_scripts.specs.declared.outputs.Output.TheVariants as outputs;
+ghost use Rattle.cf_world_plays.specs.declared.outputs.Ending.TheVariants as endings;
+ghost use Rattle.cf_world_plays.specs.declared.outputs.Output.TheVariants as outputs;
 
-use crate::conclusions::conclude;
 use crate::finishes::Finish;
-use crate::outputs::Output;
-use crate::refusals::refuse;
-use crate::reports::{Played, report};
 use cf_base::{Event, Mode, Status};
 use cf_disk::Disk;
 use cf_engine::SyncActor;
-use cf_filter_events::Actor;
 use cf_io::Sink;
 use cf_remote::Remote;
 use cf_script::read;
 use cf_world_devices::is_fit;
 use cf_world_filter::ScriptActor;
+use cf_world_plays::{Output, put_out, refuse, report};
 use std::alloc::Global;
 
 /// Reads the script, does its events, and writes what is asked for: of `filter` the report.
@@ -138,33 +132,6 @@ fn replayed<K: Sink, D: Disk + Drop, R: Remote + Drop>(
         disk: played.disk,
         remote: played.actor.into_remote(),
         explanation: None,
-    }
-}
-
-// Does the events, and writes what is asked for.
-fn put_out<K: Sink, D: Disk + Drop, A: Actor + Drop>(
-    alloc: Global,
-    output: Output,
-    text: &[u8],
-    events: Vec<Event>,
-    sink: &mut K,
-    disk: D,
-    actor: A,
-) -> Played<D, A>
-    requires short { length text.now ≤ most_script }
-    requires script { IsScript A.acts.mode text.now events.items }
-    requires of { IsTrue (list_all (is_of A.acts.mode) events.items) }
-    requires fit { IsFitSize (size_of (D.state disk)) }
-    ensures writes { WritesAsBy D.state A.acts output disk actor text.now (K.held sink.old) (K.held sink.new) result.status result.disk result.actor }
-    ensures only { IsPlayed result.status }
-    ensures sink_fault { result.status ≡ Status.SinkFault → Rose (K.faults sink.old) (K.faults sink.new) }
-    ensures device_fault { result.status ≡ Status.DeviceFault → output ≢ outputs.Ending endings.Image → HasFailed (D.state disk) (D.state result.disk) }
-    ensures unwritten { result.status ≡ Status.DeviceFault → sink.new ≡ sink.old }
-    ensures unstarted { result.status ≡ Status.DeviceFault → output ≢ outputs.Ending endings.Image → result.actor ≡ actor }
-{
-    match output {
-        Output::Report => report(alloc, text, events, sink, disk, actor),
-        Output::Ending(ending) => conclude(alloc, ending, text, events, sink, disk, actor),
     }
 }
 

@@ -6,23 +6,19 @@ ghost use Rattle.cf_disk.specs.Disk.{HasFailed, size_of};
 ghost use Rattle.cf_io.specs.Moves.{IsQuiet, IsWhole, Rose};
 ghost use Rattle.cf_world_devices.specs.Ends.{IsBeforeDevice, IsBeforeWriting};
 ghost use Rattle.cf_world_devices.specs.Sizes.{IsFit};
-ghost use Rattle.cf_world_scripts.specs.Outputs.{OfText};
-ghost use Rattle.cf_world_scripts.specs.Runs.{IsBeforeEvents};
-ghost use Rattle.cf_world_scripts.specs.Steps.{read_status};
-ghost use Rattle.cf_world_scripts.specs.declared.outputs.Ending.TheVariants as endings;
-ghost use Rattle.cf_world_scripts.specs.declared.outputs.Output.TheVariants as outputs;
+ghost use Rattle.cf_world_plays.specs.Outputs.{OfText};
+ghost use Rattle.cf_world_plays.specs.Runs.{IsBeforeEvents};
+ghost use Rattle.cf_world_plays.specs.declared.outputs.Ending.TheVariants as endings;
+ghost use Rattle.cf_world_plays.specs.declared.outputs.Output.TheVariants as outputs;
 
 use crate::finishes::Finish;
-use crate::outputs::Output;
 use crate::scripts::scripted;
 use cf_base::{Mode, Status};
 use cf_disk::Disk;
-use cf_io::{ReadError, Sink, Source, read_all};
+use cf_io::{Sink, Source, read_all};
 use cf_remote::Remote;
+use cf_world_plays::{MOST_SCRIPT_BYTES, Output, unscripted};
 use std::alloc::Global;
-
-/// The most bytes that a script has.
-pub const MOST_SCRIPT_BYTES: usize = 16_777_216;
 
 /// Reads the source, does its script, and writes what is asked for.
 pub fn sourced<S: Source, K: Sink, D: Disk + Drop, R: Remote + Drop>(
@@ -55,16 +51,5 @@ pub fn sourced<S: Source, K: Sink, D: Disk + Drop, R: Remote + Drop>(
             remote,
             explanation: None,
         },
-    }
-}
-
-/// The status of a run whose source was not read.
-pub fn unscripted(fail: ReadError) -> Status
-    ensures { result ≡ read_status fail }
-{
-    match fail {
-        ReadError::Fault => Status::SourceFault,
-        ReadError::TooLong => Status::TooLong,
-        ReadError::OutOfMemory => Status::OutOfMemory,
     }
 }

@@ -6,8 +6,8 @@ use Rattle.cf_pair_run.specs.Runs.{report_of}
 use Rattle.cf_pair_run.specs.UnderWay.{SomePlayed}
 use Rattle.cf_pair_world.specs.Owned.{is_playable}
 use Rattle.cf_world_devices.proofs.Adding.{adds_nothing}
-use Rattle.cf_world_scripts.proofs.Drafted.{drafted_all}
-use Rattle.cf_world_scripts.proofs.Traces.{all_there}
+use Rattle.cf_world_plays.proofs.Drafted.{drafted_all}
+use Rattle.cf_world_plays.proofs.Traces.{all_there}
 use Rattle.cf_pair_run.proofs.plays.play.Goals as goal
 
 pub loop-event-init : goal.loop-event-init

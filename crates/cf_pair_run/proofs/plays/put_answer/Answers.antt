@@ -1,10 +1,10 @@
 use Rattle.std.proofs.Common.{◌≡◌, ◌∙◌, List, ℕ, subst}
 use Rattle.std.specs.Prelude.{IfErr}
 use Rattle.cf_pair_report.specs.Texts.{text as text_of}
-use Rattle.cf_world_scripts.proofs.Drafted.{drafted_front, front_more}
-use Rattle.cf_world_scripts.proofs.Errs.{err_if}
-use Rattle.cf_world_scripts.specs.Steps.{AddFails}
-use Rattle.cf_world_scripts.specs.declared.play_errors.PlayError.TheVariants.{OutOfMemory}
+use Rattle.cf_world_plays.proofs.Drafted.{drafted_front, front_more}
+use Rattle.cf_world_plays.proofs.Errs.{err_if}
+use Rattle.cf_world_plays.specs.Steps.{AddFails}
+use Rattle.cf_world_plays.specs.declared.play_errors.PlayError.TheVariants.{OutOfMemory}
 use Rattle.cf_pair_run.proofs.plays.put_answer.Goals as goal
 
 pub returns-in_err-lines-clause-err : goal.returns-in_err-lines-clause-err

@@ -2,11 +2,11 @@ use Rattle.std.proofs.Common.{◌≡◌, ◌≤◌, ◌∙◌, ℕ, List, length
 use Rattle.cf_base.specs.declared.policies.Mode.TheVariants as modes
 use Rattle.cf_gen.specs.Scripts.{made_script}
 use Rattle.cf_io.specs.Moves.{IsQuiet}
-use Rattle.cf_world_scripts.proofs.OfTexts.{read_text}
-use Rattle.cf_world_scripts.specs.Outputs.{OfText}
-use Rattle.cf_world_scripts.specs.Runs.{most_script}
-use Rattle.cf_world_scripts.specs.declared.outputs.Ending.TheVariants as endings
-use Rattle.cf_world_scripts.specs.declared.outputs.Output.TheVariants as outputs
+use Rattle.cf_world_plays.proofs.OfTexts.{read_text}
+use Rattle.cf_world_plays.specs.Outputs.{OfText}
+use Rattle.cf_world_plays.specs.Runs.{most_script}
+use Rattle.cf_world_plays.specs.declared.outputs.Ending.TheVariants as endings
+use Rattle.cf_world_plays.specs.declared.outputs.Output.TheVariants as outputs
 use Rattle.cf_world.proofs.runs.made.Goals as goal
 
 pub returns-in-Ok-clause-text : goal.returns-in-Ok-clause-text

@@ -1,10 +1,10 @@
 use Rattle.std.proofs.Common.{refl, sym}
 use Rattle.cf_base.specs.declared.policies.Mode.TheVariants as mode
 use Rattle.cf_world_filter.specs.Scripts.{scripts}
-use Rattle.cf_world_scripts.proofs.Commanded.{written}
-use Rattle.cf_world_scripts.proofs.RemoteCounts.{never, never_faulted}
-use Rattle.cf_world_scripts.proofs.ModeEvents.{all_of_mode}
-use Rattle.cf_world_scripts.specs.RemoteFaults.{faults_by}
+use Rattle.cf_world_plays.proofs.Commanded.{written}
+use Rattle.cf_world_plays.proofs.RemoteCounts.{never, never_faulted}
+use Rattle.cf_world_plays.proofs.ModeEvents.{all_of_mode}
+use Rattle.cf_world_plays.specs.RemoteFaults.{faults_by}
 use Rattle.cf_world_scripts.proofs.scripts.filtered.Goals as goal
 
 pub returns-clause-writes : goal.returns-clause-writes

@@ -1,9 +1,9 @@
 use Rattle.std.proofs.Common.{◌∙◌, ap, sym, subst}
 use Rattle.cf_engine.specs.Actors.{acts_of}
 use Rattle.cf_base.specs.declared.policies.Mode.TheVariants as mode
-use Rattle.cf_world_scripts.proofs.Commanded.{replay_leaves, written_as}
-use Rattle.cf_world_scripts.proofs.RemoteCounts.{remote_count}
-use Rattle.cf_world_scripts.proofs.ModeEvents.{all_of_mode}
+use Rattle.cf_world_plays.proofs.Commanded.{replay_leaves, written_as}
+use Rattle.cf_world_plays.proofs.RemoteCounts.{remote_count}
+use Rattle.cf_world_plays.proofs.ModeEvents.{all_of_mode}
 use Rattle.cf_link.specs.Listed.{Lists}
 use Rattle.cf_world_scripts.proofs.scripts.replayed.Goals as goal
 

@@ -1,4 +1,4 @@
-use Rattle.cf_world_scripts.proofs.Concluded.{refused_as}
+use Rattle.cf_world_plays.proofs.Concluded.{refused_as}
 use Rattle.cf_world_scripts.proofs.scripts.scripted.Goals as goal
 
 pub returns-in-Err-clause-writes : goal.returns-in-Err-clause-writes

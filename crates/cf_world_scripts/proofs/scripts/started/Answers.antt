@@ -1,5 +1,5 @@
 use Rattle.cf_world_devices.proofs.Adding.{adds_nothing}
-use Rattle.cf_world_scripts.proofs.Concluded.{unfit_as}
+use Rattle.cf_world_plays.proofs.Concluded.{unfit_as}
 use Rattle.cf_world_scripts.proofs.scripts.started.Goals as goal
 
 pub returns-then-not-is_fit-clause-writes : goal.returns-then-not-is_fit-clause-writes

@@ -1,6 +1,6 @@
 use Rattle.std.proofs.Common.{◌≡◌, ap, Err, refl}
 use Rattle.cf_world_devices.proofs.Adding.{adds_nothing}
-use Rattle.cf_world_scripts.proofs.OfTexts.{read_text, unread_text}
+use Rattle.cf_world_plays.proofs.OfTexts.{read_text, unread_text}
 use Rattle.cf_world_scripts.proofs.sources.sourced.Goals as goal
 
 pub returns-in-Ok-clause-text : goal.returns-in-Ok-clause-text

@@ -1,35 +1,18 @@
 use Rattle.cf_filter_events.proofs.Counted.{counts_event}
+use Rattle.cf_filter_events.proofs.EventFaults.{faults_always}
 use Rattle.cf_filter_events.proofs.places.Acting.step.Goals as goal
 
-pub returns-in-On-clause-steps : goal.returns-in-On-clause-steps
-returns-in-On-clause-steps g c = rw c.in-On.is c.step_on.ensures.steps
+pub returns-in-Device-clause-steps : goal.returns-in-Device-clause-steps
+returns-in-Device-clause-steps g c = rw c.in-Device.is c.bear.ensures.steps
 
-pub returns-in-On-clause-device : goal.returns-in-On-clause-device
-returns-in-On-clause-device g c = rw c.in-On.is c.step_on.ensures.device
+pub returns-in-Device-clause-device : goal.returns-in-Device-clause-device
+returns-in-Device-clause-device g c = rw c.in-Device.is c.bear.ensures.device
 
-pub returns-in-Off-clause-device : goal.returns-in-Off-clause-device
-returns-in-Off-clause-device g c = rw c.in-Off.is c.step_off.ensures.device
+pub returns-in-Device-clause-counts : goal.returns-in-Device-clause-counts
+returns-in-Device-clause-counts g c = rw c.in-Device.is (counts_event _ _ _ _ _ _ c.bear.ensures.counts)
 
-pub returns-in-On-clause-counts : goal.returns-in-On-clause-counts
-returns-in-On-clause-counts g c = rw c.in-On.is c.step_on.ensures.counts
+pub returns-in-Device-clause-faults : goal.returns-in-Device-clause-faults
+returns-in-Device-clause-faults g c = faults_always _ _ _ _ _ c.bear.ensures.faults
 
-pub returns-in-Off-clause-counts : goal.returns-in-Off-clause-counts
-returns-in-Off-clause-counts g c = rw c.in-Off.is (counts_event _ _ _ _ _ _ c.step_off.ensures.counts)
-
-pub returns-in-On-clause-faults : goal.returns-in-On-clause-faults
-returns-in-On-clause-faults g c = rw c.in-On.is c.step_on.ensures.faults
-
-pub returns-in-Off-clause-faults : goal.returns-in-Off-clause-faults
-returns-in-Off-clause-faults g c = rw c.in-Off.is c.step_off.ensures.faults
-
-pub returns-in-On-clause-whole : goal.returns-in-On-clause-whole
-returns-in-On-clause-whole g c = rw c.in-On.is c.step_on.ensures.whole
-
-pub returns-in-Off-clause-whole : goal.returns-in-Off-clause-whole
-returns-in-Off-clause-whole g c = rw c.in-Off.is (record { whole = λ past s off power whole. c.step_off.ensures.whole whole })
-
-pub returns-in-On-clause-newest : goal.returns-in-On-clause-newest
-returns-in-On-clause-newest g c = rw c.in-On.is c.step_on.ensures.newest
-
-pub returns-in-Off-clause-newest : goal.returns-in-Off-clause-newest
-returns-in-Off-clause-newest g c = rw c.in-Off.is c.step_off.ensures.newest
+pub returns-in-Device-clause-newest : goal.returns-in-Device-clause-newest
+returns-in-Device-clause-newest g c = rw c.in-Device.is c.bear.ensures.newest

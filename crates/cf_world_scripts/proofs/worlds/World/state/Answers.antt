@@ -1,4 +1,0 @@
-use Rattle.cf_world_scripts.proofs.worlds.World.state.Goals as goal
-
-pub returns : goal.returns
-returns g c = rw (← c.self.view_is) c.state_of.ensures
