@@ -1,6 +1,6 @@
 //! The spelling of a row.
 
-ghost use Rattle.std.specs.Prelude.{◌≡◌, ◌≤◌, ◌<◌, ◌+◌, ◌^◌, ◌++◌, ◌∷◌, IfOk, OnOk, is_some, unwrap_or, length, map, All};
+ghost use Rattle.std.specs.Prelude.{◌≡◌, ◌≤◌, ◌<◌, ◌+◌, ◌^◌, ◌++◌, ◌∷◌, OnOk, is_some, unwrap_or, length, map, All};
 ghost use Rattle.cf_base.specs.declared.ids.Usn.{Usn};
 ghost use Rattle.cf_base.specs.declared.spans.Span.{Span};
 ghost use Rattle.cf_model.specs.Rows.{flag_of, flags_of, pin_byte, spell_extent, spell_extents, spell_head, spell_row, spell_run, spell_runs, spell_sets, spell_texts};
@@ -12,7 +12,7 @@ ghost use Rattle.cf_table.specs.Spelling.{EndBelow, extent_of, HasRoom, row_valu
 use crate::plain_fields::{put_2, put_4, put_8, put_usn};
 use crate::rows::Row;
 use crate::tables::Rows;
-use cf_base::{Blob, OutOfMemory, Pin, Span, Usn};
+use cf_base::{OutOfMemory, Pin, Span, Usn};
 use cf_codec::Writer;
 use cf_ranges::RangeSet;
 
@@ -172,16 +172,14 @@ pub(crate) fn put_rows(out: &mut Writer, rows: &[Row]) -> Result<(), OutOfMemory
 }
 
 impl Rows {
-    /// Spells how many rows there are, and the rows in order of id. Of 4,294,967,296 rows and more only the last four bytes
-    /// of the count are spelled.
-    pub fn spell(&self) -> Result<Blob, OutOfMemory>
+    /// Spells how many rows there are, and the rows in order of id, behind what was written. Of 4,294,967,296 rows and more
+    /// only the last four bytes of the count are spelled. Without memory some of it is written.
+    pub fn spell(&self, out: &mut Writer) -> Result<(), OutOfMemory>
         requires { All HasRoom self.now.rows }
-        ensures { IfOk result (λ b. b ≡ spell_rows (map row_value self.now.rows)) }
+        ensures { OnOk result (out.new ≡ out.old ++ spell_rows (map row_value self.now.rows)) }
     {
-        let mut out = Writer::new(self.alloc);
-        put_count(&mut out, self.rows.as_slice())?;
-        put_rows(&mut out, self.rows.as_slice())?;
-        Ok(out.into_blob())
+        put_count(out, self.rows.as_slice())?;
+        put_rows(out, self.rows.as_slice())
     }
 }
 

@@ -4,7 +4,7 @@ ghost use Rattle.std.specs.List.{All};
 ghost use Rattle.cf_table.specs.Spelling.{HasRoom};
 
 use cf_base::ItemId;
-use cf_codec::{Format, Reader};
+use cf_codec::{Format, Reader, Writer};
 use cf_table::*;
 use std::alloc::Global;
 use std::test::Fail;
@@ -22,26 +22,29 @@ fn why(alloc: Global, bytes: &[u8], format: Format) -> Option<RowError> {
 
 // Whether the rows are spelled so. What a test owns it lets go before it fails: each way out on which something is let go
 // silently costs the proof of its whole drop.
-fn are_spelled(rows: &Rows, bytes: &[u8]) -> Result<bool, Fail>
+fn are_spelled(alloc: Global, rows: &Rows, bytes: &[u8]) -> Result<bool, Fail>
     requires { All HasRoom rows.now.rows }
 {
-    let spelled = rows.spell()?;
-    let same = spelled.as_slice() == bytes;
-    drop(spelled);
+    let mut out = Writer::new(alloc);
+    let spelled = rows.spell(&mut out);
+    let text = out.into_blob();
+    let same = text.as_slice() == bytes;
+    drop(text);
+    spelled?;
     Ok(same)
 }
 
-fn is_root_alone(rows: &Rows) -> Result<bool, Fail>
+fn is_root_alone(alloc: Global, rows: &Rows) -> Result<bool, Fail>
     requires { All HasRoom rows.now.rows }
 {
     let has_root = rows.next() == ItemId(7) && rows.get(ItemId(1)).is_some();
-    Ok(has_root && rows.image_len() == 74 && are_spelled(rows, &ROOT_ALONE)?)
+    Ok(has_root && rows.image_len() == 74 && are_spelled(alloc, rows, &ROOT_ALONE)?)
 }
 
 #[test]
 fn what_is_read_is_spelled_again(rt: HostRuntime) -> Result<(), Fail> {
     let rows = Rows::read(rt.alloc(), &ROOT_ALONE, Format::Second, ItemId(7))?;
-    let alone = is_root_alone(&rows);
+    let alone = is_root_alone(rt.alloc(), &rows);
     drop(rows);
     assert!(rt; alone?);
     Ok(())
@@ -126,7 +129,7 @@ fn a_wrong_field_is_named(rt: HostRuntime) -> Result<(), Fail> {
 fn format_1_has_no_last_access(rt: HostRuntime) -> Result<(), Fail> {
     let first = &ROOT_ALONE[..70];
     let rows = Rows::read(rt.alloc(), first, Format::First, ItemId(2))?;
-    let same = are_spelled(&rows, &ROOT_ALONE);
+    let same = are_spelled(rt.alloc(), &rows, &ROOT_ALONE);
     drop(rows);
     assert!(rt; same?);
     assert!(rt; why(rt.alloc(), &first[..69], Format::First) == Some(RowError::Short(66)));

@@ -29,11 +29,10 @@ pub fn spell_image(alloc: Global, contents: &Contents) -> Result<Blob, OutOfMemo
     requires { All HasRoom contents.now.rows.rows }
     ensures { IfOk result (λ b. b ≡ spell_image (image_of contents.now)) }
 {
-    let rows = contents.rows.spell()?;
     let mut out = Writer::new(alloc);
     out.put_u8(FORMAT)?;
     put_header(&mut out, contents)?;
-    out.put_bytes(rows.as_slice())?;
+    contents.rows.spell(&mut out)?;
     put_records(&mut out, &contents.records)?;
     Ok(out.into_blob())
 }

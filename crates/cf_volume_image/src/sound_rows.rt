@@ -1,6 +1,6 @@
 //! Whether a row is sound.
 
-ghost use Rattle.std.specs.Prelude.{◌≡◌, ◌<◌, true, false, unwrap_or};
+ghost use Rattle.std.specs.Prelude.{◌≡◌, ◌<◌, false, unwrap_or};
 ghost use Rattle.std.specs.Bool.{Decides};
 ghost use Rattle.cf_model.specs.Numbers.{above};
 ghost use Rattle.cf_model.specs.Rows.{IsSoundRow};
