@@ -9,7 +9,7 @@ ghost use Rattle.cf_engine_queue.specs.Records.{IsCursor, IsEntry, IsKeepable, I
 
 use crate::fields::number_and_rest;
 use crate::record_reads::{read_cursor, read_record};
-use crate::record_writes::{entry_key, seen_key, tombstone_key};
+use crate::record_writes::{entry_key, seen_key_bytes, tombstone_key};
 use crate::records::Record;
 use crate::uploads::{QueueEntry, Tombstone};
 use cf_base::{AuxRecord, ItemId, OutOfMemory, Rid, SeenPath, Token, Usn, no_such_state};
@@ -87,7 +87,7 @@ pub fn find_seen(
 ) -> Result<Option<SeenPath>, OutOfMemory>
     ensures { (b : Book) → IsKeepable b → records.now ≡ aux_records b → IfOk result (λ o. o ≡ seen_of b item) }
 {
-    let key = seen_key(alloc, item)?;
+    let key = seen_key_bytes(item);
     match records.get(key.as_slice()) {
         Some(record) => Ok(Some(seen_said(alloc, record)?)),
         None => Ok(None),
@@ -111,9 +111,8 @@ fn has_path(record: &AuxRecord, parent: Rid, name: &[u8]) -> Result<bool, OutOfM
 }
 
 /// Whether an item was seen at this path, under this item of the remote and by this name, among the records of a book. It takes steps as
-/// the logarithm of their count, and no memory but for a key. Out of memory also where they are the records of no book.
+/// the logarithm of their count, and no memory. It is out of memory only where they are the records of no book.
 pub fn is_seen_at(
-    alloc: Global,
     records: &AuxRecords,
     item: ItemId,
     parent: Rid,
@@ -121,7 +120,7 @@ pub fn is_seen_at(
 ) -> Result<bool, OutOfMemory>
     ensures { (b : Book) → IsKeepable b → records.now ≡ aux_records b → IfOk result (λ x. x ≡ says (λ p. (parent.0 == p.parent.0) && same name.now p.name) (seen_of b item)) }
 {
-    let key = seen_key(alloc, item)?;
+    let key = seen_key_bytes(item);
     match records.get(key.as_slice()) {
         Some(record) => has_path(record, parent, name),
         None => Ok(false),

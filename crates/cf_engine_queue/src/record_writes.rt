@@ -73,6 +73,16 @@ pub fn seen_key(alloc: Global, item: ItemId) -> Result<Blob, OutOfMemory>
     Ok(out.into_blob())
 }
 
+/// The bytes of that key, for a look-up.
+#[tactic(auto, using(crate::proofs::Spelled::eight_bytes))]
+pub(crate) fn seen_key_bytes(item: ItemId) -> [u8; 9]
+    ensures ok { result ≡ 115 ∷ in_bytes 8 item.0 }
+    ensures fits { item.0 < 2 ^ 64 }
+{
+    let id = item.0.to_be_bytes();
+    [b's', id[0], id[1], id[2], id[3], id[4], id[5], id[6], id[7]]
+}
+
 fn seen_value(alloc: Global, seen: &SeenPath) -> Result<Blob, OutOfMemory>
     ensures ok { IfOk result (λ value. value ≡ in_bytes 8 seen.now.parent.0 ++ seen.now.name) }
     ensures fits { seen.now.parent.0 < 2 ^ 64 }

@@ -36,7 +36,7 @@ pub fn is_seen_at<S: EngineHost>(
 ) -> Result<bool, OutOfMemory>
     ensures { IfOk result (λ x. FilterReads S.sense AnyFilter (is_seen_in item parent name.now) s.now x) }
 {
-    find_path(s.alloc(), s.records(), item, parent, name)
+    find_path(s.records(), item, parent, name)
 }
 
 /// The tombstone with this number. As `live_entry`.
