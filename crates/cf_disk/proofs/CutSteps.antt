@@ -1,5 +1,5 @@
 -- How a power cut goes over the pages that are kept.
-use Rattle.std.proofs.Common.{◌≡◌, ◌⊎◌, inl, inr, ℕ, zero, suc, ◌+◌, ◌-◌, ◌*◌, ◌/◌, ◌%◌, ◌<◌, ◌≤◌, min, Bool, false, List, length, get_or, take, drop, replicate, refl, sym, ◌∙◌, ap, arith}
+use Rattle.std.proofs.Common.{◌≡◌, ◌⊎◌, inl, inr, ℕ, zero, suc, ◌+◌, ◌-◌, ◌*◌, ◌/◌, ◌%◌, ◌<◌, ◌≤◌, min, Bool, false, List, [], length, get_or, take, drop, replicate, refl, sym, ◌∙◌, ap, arith}
 use Rattle.std.proofs.lemmas.Bool.{cases_lt, cases_eq, cases_order}
 use Rattle.std.proofs.lemmas.List.{ext_get_or, length-take, length-drop, get_or-take, get_or-drop, get_or_past, take-append-le, drop-append-le}
 use Rattle.std.proofs.lemmas.List.FromFn.{length-map-range_with_len, get_or-map-range_with_len}
@@ -110,7 +110,7 @@ not_kept : (o : OldPages) → IsSound o → (i : ℕ) → ((k : ℕ) → k < len
 not_kept o sound i none = one (slot_of o i) refl
   where
     one : (s : ℕ) → slot_of o i ≡ s → is_written o i ≡ false
-    one zero is = in_slot_free (pool_flag o.flags.items) (slot_of o i) false (i % 4096) is
+    one zero is = in_slot_free (pool_flag o.written.pages) (slot_of o i) false (i % 4096) is
     one (suc k) is = let was = sound.back (i / 4096) k is in absurd (none k was.0 was.1)
 
 -- the generator goes over a page
@@ -133,21 +133,18 @@ module _ (o : OldPages) (n room page state : ℕ) (first bytes : List ℕ) (medi
       quiet : (i : ℕ) → page * 4096 ≤ i → i < page * 4096 + 4096 → is_written o i ≡ false
       quiet i from to =
           let here : i / 4096 ≡ page = omega (arith, from, to) in
-          in_slot_free (pool_flag o.flags.items) (slot_of o i) false (i % 4096) (ap (λ (p : ℕ). get_or o.slots.items p 0) here ∙ is)
+          in_slot_free (pool_flag o.written.pages) (slot_of o i) false (i % 4096) (ap (λ (p : ℕ). get_or o.slots.items p 0) here ∙ is)
 
   -- one that is kept
   module _ (k start len result : ℕ) (synced new : List ℕ) (pending : List Bool) (front : page * 4096 < length bytes) (used : get_or o.slots.items page 0 ≡ suc k)
       (start_is : start ≡ get_or o.starts.items k 0) (len_is : len ≡ min 4096 (length bytes - page * 4096))
-      (synced_is : synced ≡ part start len o.bytes.items) (pending_is : pending ≡ take len (drop (k * 4096) o.flags.items))
+      (synced_is : synced ≡ part start len o.bytes.items) (pending_is : pending ≡ take len (get_or o.written.pages k []))
       (new_is : new ≡ over (page * 4096) (mixed state (part (page * 4096) (length synced) bytes) synced pending) bytes) (result_is : result ≡ stirs state pending) where
     number : k < length o.pages.items
     number = (medium.sound.back page k used).0
 
     bytes_room : start + len ≤ length o.bytes.items
     bytes_room = omega (arith, medium.sound.ends k number, start_is)
-
-    flags_room : k * 4096 + len ≤ length o.flags.items
-    flags_room = omega (arith, number, medium.sound.flags_size)
 
     room_here : page * 4096 + len ≤ length bytes
     room_here = omega arith
@@ -161,7 +158,7 @@ module _ (o : OldPages) (n room page state : ℕ) (first bytes : List ℕ) (medi
     byte_place : (i : ℕ) → i < len → get_or o.starts.items k 0 + (page * 4096 + i) % 4096 ≡ start + i
     byte_place i lt = omega (arith, lt, start_is)
 
-    flag_place : (i : ℕ) → i < len → k * 4096 + (page * 4096 + i) % 4096 ≡ k * 4096 + i
+    flag_place : (i : ℕ) → i < len → (page * 4096 + i) % 4096 ≡ i
     flag_place i lt = omega (arith, lt)
 
     synced_part : synced ≡ part (page * 4096) len (old_bytes n first o)
@@ -174,17 +171,16 @@ module _ (o : OldPages) (n room page state : ℕ) (first bytes : List ℕ) (medi
         ∙ sym (old_bytes_at n first o (page * 4096 + i) (omega (arith, inside, low)))
         ∙ sym (get_or-part (page * 4096) len (old_bytes n first o) i low))
 
-    pending_size : length (take len (drop (k * 4096) o.flags.items)) ≡ len
-    pending_size = omega (arith, length-take len (drop (k * 4096) o.flags.items), length-drop (k * 4096) o.flags.items, flags_room)
+    pending_size : length (take len (get_or o.written.pages k [])) ≡ len
+    pending_size = omega (arith, length-take len (get_or o.written.pages k []), medium.sound.written_each k number, len_is)
 
     pending_part : pending ≡ take len (drop (page * 4096) (written_places n o))
-    pending_part = pending_is ∙ ext_get_or false (take len (drop (k * 4096) o.flags.items)) (take len (drop (page * 4096) (written_places n o)))
+    pending_part = pending_is ∙ ext_get_or false (take len (get_or o.written.pages k [])) (take len (drop (page * 4096) (written_places n o)))
         (omega (arith, pending_size, length-take len (drop (page * 4096) (written_places n o)), length-drop (page * 4096) (written_places n o), length-written_places n o, inside))
         (λ i lt. let low : i < len = omega (arith, lt, pending_size) in
-        get_or-take len (drop (k * 4096) o.flags.items) i false low
-        ∙ get_or-drop (k * 4096) o.flags.items i false
-        ∙ ap (λ (j : ℕ). get_or o.flags.items j false) (sym (flag_place i low))
-        ∙ sym (in_slot_used (pool_flag o.flags.items) (slot_of o (page * 4096 + i)) k false ((page * 4096 + i) % 4096) (slot i low))
+        get_or-take len (get_or o.written.pages k []) i false low
+        ∙ ap (λ (j : ℕ). get_or (get_or o.written.pages k []) j false) (sym (flag_place i low))
+        ∙ sym (in_slot_used (pool_flag o.written.pages) (slot_of o (page * 4096 + i)) k false ((page * 4096 + i) % 4096) (slot i low))
         ∙ sym (written_at n o (page * 4096 + i) (omega (arith, inside, low)))
         ∙ sym (get_or-drop (page * 4096) (written_places n o) i false)
         ∙ sym (get_or-take len (drop (page * 4096) (written_places n o)) i false low))

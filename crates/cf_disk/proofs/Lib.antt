@@ -1,6 +1,7 @@
 mod Mixing
 mod ImageLaws
 mod FrontLaws
+mod WritingLaws
 mod SlotLaws
 mod PoolLaws
 mod MarkLaws

@@ -36,7 +36,7 @@ module _ (n : ℕ) (bytes : List ℕ) (o : OldPages) (clean : AreClean o) (fits 
   byte now i = in_slot_free (pool_byte o.starts.items o.bytes.items) (slot_of o i) now (i % 4096) (clean (i / 4096))
 
   flag : (i : ℕ) → is_written o i ≡ false
-  flag i = in_slot_free (pool_flag o.flags.items) (slot_of o i) false (i % 4096) (clean (i / 4096))
+  flag i = in_slot_free (pool_flag o.written.pages) (slot_of o i) false (i % 4096) (clean (i / 4096))
 
   size : length (filled n 0 bytes) ≡ n
   size = omega (arith, length-filled 0 n bytes)

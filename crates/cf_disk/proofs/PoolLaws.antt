@@ -1,12 +1,13 @@
 -- How the pages go on that are kept.
-use Rattle.std.proofs.Common.{◌≡◌, inl, inr, ℕ, suc, ◌+◌, ◌-◌, ◌*◌, ◌/◌, ◌%◌, ◌^◌, ◌<◌, ◌≤◌, min, set, Bool, false, List, [], ◌∷◌, ◌++◌, length, get_or, refl, sym, ◌∙◌, ap, arith}
+use Rattle.std.proofs.Common.{◌≡◌, inl, inr, ℕ, suc, ◌+◌, ◌-◌, ◌*◌, ◌/◌, ◌%◌, ◌<◌, ◌≤◌, min, set, Bool, false, List, [], ◌∷◌, ◌++◌, length, get_or, replicate, refl, sym, ◌∙◌, ap, arith}
 use Rattle.std.specs.Prelude.{vec_capacity}
 use Rattle.std.proofs.lemmas.Bool.{cases_lt, cases_eq}
-use Rattle.std.proofs.lemmas.List.{length-append, length-set, length_push, get_or_push, get_or_past, get_or_append_left, get_or-append_right, get_or-set_same, get_or-set_other}
+use Rattle.std.proofs.lemmas.List.{length-append, length-replicate, length-set, length_push, get_or-replicate, get_or_push, get_or_past, get_or_append_left, get_or-append_right, get_or-set_same, get_or-set_other}
 use Rattle.cf_disk.specs.declared.old_pages.OldPages.{OldPages}
 use Rattle.cf_disk.specs.Disk.{part}
 use Rattle.cf_disk.specs.Fronts.{filled}
 use Rattle.cf_disk.specs.Keeping.{free, in_slot, pool_byte, pool_flag, slot_of, IsSound, KeepsPages, StoresPage}
+use Rattle.cf_disk.specs.Writing.{Written}
 use Rattle.cf_disk.specs.Parts.{length-part, get_or-part}
 use Rattle.cf_disk.proofs.FrontLaws.{length-filled, filled_any}
 use Rattle.cf_disk.proofs.SlotLaws.{free_set, free_filled, in_slot_same, in_slot_free, in_slot_used}
@@ -34,22 +35,22 @@ keeps_none bytes a x = record {
 
 -- slots for more pages, all of them free
 module _ (o new : OldPages) (pages : ℕ) (slots_are : new.slots.items ≡ filled pages 0 o.slots.items) (pages_are : new.pages.items ≡ o.pages.items)
-    (starts_are : new.starts.items ≡ o.starts.items) (bytes_are : new.bytes.items ≡ o.bytes.items) (flags_are : new.flags.items ≡ o.flags.items) (most_is : new.most ≡ o.most) where
+    (starts_are : new.starts.items ≡ o.starts.items) (bytes_are : new.bytes.items ≡ o.bytes.items) (written_are : new.written ≡ o.written) (most_is : new.most ≡ o.most) where
   slot : (p : ℕ) → get_or new.slots.items p 0 ≡ get_or o.slots.items p 0
   slot p = ap (λ (l : List ℕ). get_or l p 0) slots_are ∙ filled_any 0 pages p o.slots.items
 
   pub reach_keeps : (bytes : List ℕ) (a : ℕ) → KeepsPages bytes a a o new
   reach_keeps bytes a = record {
     bytes_stay = λ i. (λ j. in_slot (pool_byte (starts_are j) (bytes_are j)) (slot (i / 4096) j) (get_or bytes i 0) (i % 4096));
-    flags_stay = λ i. (λ j. in_slot (pool_flag (flags_are j)) (slot (i / 4096) j) false (i % 4096));
+    flags_stay = λ i. (λ j. in_slot (pool_flag (ap (λ (w : Written). w.pages) written_are j)) (slot (i / 4096) j) false (i % 4096));
     kept = λ k from to. absurd (omega (arith, from, to));
     stays = λ k some. omega (arith, some, slot k);
     most = most_is;
   }
 
   pub reach_sound : IsSound o → pages ≤ o.most → vec_capacity o.slots ≤ vec_capacity new.slots → vec_capacity o.pages ≤ vec_capacity new.pages
-      → vec_capacity o.starts ≤ vec_capacity new.starts → vec_capacity o.bytes ≤ vec_capacity new.bytes → vec_capacity o.flags ≤ vec_capacity new.flags → IsSound new
-  reach_sound sound le slots_room pages_room starts_room bytes_room flags_room = record {
+      → vec_capacity o.starts ≤ vec_capacity new.starts → vec_capacity o.bytes ≤ vec_capacity new.bytes → IsSound new
+  reach_sound sound le slots_room pages_room starts_room bytes_room = record {
     back = λ p k is. let was = sound.back p k (sym (slot p) ∙ is) in (omega (arith, was.0, size), page k ∙ was.1);
     there = λ k lt. ap (λ (p : ℕ). get_or new.slots.items p 0) (page k) ∙ slot (get_or o.pages.items k 0) ∙ sound.there k (omega (arith, lt, size));
     starts_size = omega (arith, ap length starts_are, sound.starts_size, size);
@@ -57,7 +58,9 @@ module _ (o new : OldPages) (pages : ℕ) (slots_are : new.slots.items ≡ fille
     zeros = λ i lt. ap (λ (l : List ℕ). get_or l i 0) bytes_are ∙ sound.zeros i lt;
     bytes_least = omega (arith, ap length bytes_are, sound.bytes_least);
     bytes_most = omega (arith, ap length bytes_are, sound.bytes_most, size);
-    flags_size = omega (arith, ap length flags_are, sound.flags_size, size);
+    written_size = omega (arith, ap (λ (w : Written). length w.pages) written_are, sound.written_size, size);
+    written_each = λ k lt. ap (λ (w : Written). length (get_or w.pages k [])) written_are ∙ sound.written_each k (omega (arith, lt, size));
+    written_most = ap (λ (w : Written). w.most) written_are ∙ sound.written_most ∙ sym most_is;
     few = omega (arith, size, ap free slots_are, free_filled pages o.slots.items, ap length slots_are, length-filled 0 pages o.slots.items, sound.few);
     fits = omega (arith, ap length slots_are, length-filled 0 pages o.slots.items, sound.fits, le, most_is);
     small = omega (arith, sound.small, most_is);
@@ -65,7 +68,6 @@ module _ (o new : OldPages) (pages : ℕ) (slots_are : new.slots.items ≡ fille
     pages_room = omega (arith, sound.pages_room, pages_room, most_is);
     starts_room = omega (arith, sound.starts_room, starts_room, most_is);
     bytes_room = omega (arith, sound.bytes_room, bytes_room, most_is);
-    flags_room = omega (arith, sound.flags_room, flags_room, most_is);
   }
     where
       size : length new.pages.items ≡ length o.pages.items
@@ -134,7 +136,7 @@ module _ (pool bytes src new : List ℕ) (page start : ℕ) (front : page * 4096
 module _ (o new : OldPages) (bytes : List ℕ) (page n used start : ℕ) (sound : IsSound o) (n_is : length o.pages.items ≡ n) (used_is : used ≡ suc n)
     (reached : page < length o.slots.items) (is_free : get_or o.slots.items page 0 ≡ 0) (stores : StoresPage bytes page start o.bytes.items new.bytes.items)
     (slots_are : new.slots.items ≡ set o.slots.items page used) (pages_are : new.pages.items ≡ o.pages.items ++ page ∷ [])
-    (starts_are : new.starts.items ≡ o.starts.items ++ start ∷ []) (flags_are : new.flags.items ≡ filled (used * 4096) false o.flags.items)
+    (starts_are : new.starts.items ≡ o.starts.items ++ start ∷ []) (written_are : new.written ≡ record { most = o.written.most; pages = o.written.pages ++ replicate 4096 false ∷ [] })
     (most_is : new.most ≡ o.most) where
   slots_now : new.slots.items ≡ set o.slots.items page (suc n)
   slots_now = slots_are ∙ ap (λ (k : ℕ). set o.slots.items page k) used_is
@@ -168,8 +170,14 @@ module _ (o new : OldPages) (bytes : List ℕ) (page n used start : ℕ) (sound 
       ap (λ (s : ℕ). get_or new.bytes.items (s + r) 0) (start_before k low)
       ∙ stores.stays (get_or o.starts.items k 0 + r) (omega (arith, sound.ends k (omega (arith, low, n_is)), lt))
 
-  flags_any : (j : ℕ) → get_or new.flags.items j false ≡ get_or o.flags.items j false
-  flags_any j = ap (λ (l : List Bool). get_or l j false) flags_are ∙ filled_any false (used * 4096) j o.flags.items
+  pages_size : length o.written.pages ≡ n
+  pages_size = sound.written_size ∙ n_is
+
+  flags_here : get_or new.written.pages n [] ≡ replicate 4096 false
+  flags_here = ap (λ (w : Written). get_or w.pages n []) written_are ∙ get_or_push o.written.pages (replicate 4096 false) [] n pages_size
+
+  flags_before : (k : ℕ) → k < n → get_or new.written.pages k [] ≡ get_or o.written.pages k []
+  flags_before k lt = ap (λ (w : Written). get_or w.pages k []) written_are ∙ get_or_append_left o.written.pages (replicate 4096 false ∷ []) [] k (omega (arith, lt, pages_size))
 
   pub add_keeps : KeepsPages bytes page (page + 1) o new
   add_keeps = record {
@@ -186,13 +194,14 @@ module _ (o new : OldPages) (bytes : List ℕ) (page n used start : ℕ) (sound 
     ];
     flags_stay = λ i. elim (cases_eq (i / 4096) page) [
       | inl same ↦
-          in_slot_used (pool_flag new.flags.items) (slot_of new i) n false (i % 4096) (ap (λ (p : ℕ). get_or new.slots.items p 0) same ∙ here)
-          ∙ flags_any (n * 4096 + i % 4096)
-          ∙ get_or_past o.flags.items (n * 4096 + i % 4096) false (omega (arith, sound.flags_size))
-          ∙ sym (in_slot_free (pool_flag o.flags.items) (slot_of o i) false (i % 4096) (ap (λ (p : ℕ). get_or o.slots.items p 0) same ∙ is_free))
+          in_slot_used (pool_flag new.written.pages) (slot_of new i) n false (i % 4096) (ap (λ (p : ℕ). get_or new.slots.items p 0) same ∙ here)
+          ∙ ap (λ (l : List Bool). get_or l (i % 4096) false) flags_here
+          ∙ get_or-replicate 4096 (i % 4096) false false (omega arith)
+          ∙ sym (in_slot_free (pool_flag o.written.pages) (slot_of o i) false (i % 4096) (ap (λ (p : ℕ). get_or o.slots.items p 0) same ∙ is_free))
       | inr other ↦
-          ap (λ (s : ℕ). in_slot (pool_flag new.flags.items) s false (i % 4096)) (beside (i / 4096) other)
-          ∙ in_slot_same (pool_flag o.flags.items) (pool_flag new.flags.items) (slot_of o i) false (i % 4096) (λ k is. flags_any (k * 4096 + i % 4096))
+          ap (λ (s : ℕ). in_slot (pool_flag new.written.pages) s false (i % 4096)) (beside (i / 4096) other)
+          ∙ in_slot_same (pool_flag o.written.pages) (pool_flag new.written.pages) (slot_of o i) false (i % 4096)
+          (λ k is. ap (λ (l : List Bool). get_or l (i % 4096) false) (flags_before k (omega (arith, (sound.back (i / 4096) k is).0, n_is))))
     ];
     kept = λ p from to. let same : page ≡ p = omega (arith, from, to) in omega (arith, here, ap (λ (q : ℕ). get_or new.slots.items q 0) same);
     stays = λ p some. elim (cases_eq p page) [
@@ -203,8 +212,8 @@ module _ (o new : OldPages) (bytes : List ℕ) (page n used start : ℕ) (sound 
   }
 
   pub add_sound : vec_capacity o.slots ≤ vec_capacity new.slots → vec_capacity o.pages ≤ vec_capacity new.pages → vec_capacity o.starts ≤ vec_capacity new.starts
-      → vec_capacity o.bytes ≤ vec_capacity new.bytes → vec_capacity o.flags ≤ vec_capacity new.flags → IsSound new
-  add_sound slots_room pages_room starts_room bytes_room flags_room = record {
+      → vec_capacity o.bytes ≤ vec_capacity new.bytes → IsSound new
+  add_sound slots_room pages_room starts_room bytes_room = record {
     back = λ p k is. elim (cases_eq p page) [
       | inl same ↦
           let number : n ≡ k = omega (arith, here, ap (λ (q : ℕ). get_or new.slots.items q 0) same, is) in
@@ -235,7 +244,14 @@ module _ (o new : OldPages) (bytes : List ℕ) (page n used start : ℕ) (sound 
     zeros = λ i lt. stores.stays i (omega (arith, lt, sound.bytes_least)) ∙ sound.zeros i lt;
     bytes_least = omega (arith, sound.bytes_least, stores.least);
     bytes_most = omega (arith, sound.bytes_most, stores.most, size, n_is);
-    flags_size = omega (arith, ap length flags_are, length-filled false (used * 4096) o.flags.items, sound.flags_size, size, used_is, n_is);
+    written_size = omega (arith, ap (λ (w : Written). length w.pages) written_are, length_push o.written.pages (replicate 4096 false), pages_size, size);
+    written_each = λ k lt. elim (cases_lt k n) [
+      | inl low ↦ ap length (flags_before k low) ∙ sound.written_each k (omega (arith, low, n_is))
+      | inr high ↦
+          let number : k ≡ n = omega (arith, high, lt, size) in
+          ap (λ (j : ℕ). length (get_or new.written.pages j [])) number ∙ ap length flags_here ∙ length-replicate 4096 false
+    ];
+    written_most = ap (λ (w : Written). w.most) written_are ∙ sound.written_most ∙ sym most_is;
     few = omega (arith, size, ap free slots_now, free_set o.slots.items page n reached is_free, ap length slots_now, length-set o.slots.items page (suc n), sound.few, n_is);
     fits = omega (arith, ap length slots_now, length-set o.slots.items page (suc n), sound.fits, most_is);
     small = omega (arith, sound.small, most_is);
@@ -243,7 +259,6 @@ module _ (o new : OldPages) (bytes : List ℕ) (page n used start : ℕ) (sound 
     pages_room = omega (arith, sound.pages_room, pages_room, most_is);
     starts_room = omega (arith, sound.starts_room, starts_room, most_is);
     bytes_room = omega (arith, sound.bytes_room, bytes_room, most_is);
-    flags_room = omega (arith, sound.flags_room, flags_room, most_is);
   }
 
 -- the pool has room for a page that has a free slot
@@ -252,11 +267,3 @@ room_free slots p lt is = omega (arith, free_set slots p 0 lt is)
 
 pub room_page : (o : OldPages) (page : ℕ) → IsSound o → page < length o.slots.items → get_or o.slots.items page 0 ≡ 0 → length o.pages.items < o.most
 room_page o page sound reached is_free = omega (arith, sound.few, sound.fits, room_free o.slots.items page reached is_free)
-
--- where a page lies in the pool
-module _ (o : OldPages) (k : ℕ) (sound : IsSound o) (number : k < length o.pages.items) where
-  pub pool_flags : k * 4096 + 4096 ≤ length o.flags.items
-  pool_flags = omega (arith, number, sound.flags_size)
-
-  pub pool_small : k * 4096 + 4096 < 2 ^ 64
-  pool_small = omega (arith, number, sound.few, sound.fits, sound.small)

@@ -14,8 +14,8 @@ slot_of o i = get_or o.slots.items (i / 4096) 0
 abbrev pub pool_byte : List ℕ → List ℕ → ℕ → ℕ → ℕ
 pool_byte starts bytes k at = get_or bytes (get_or starts k 0 + at) 0
 
-abbrev pub pool_flag : List Bool → ℕ → ℕ → Bool
-pool_flag flags k at = get_or flags (k * 4096 + at) false
+abbrev pub pool_flag : List (List Bool) → ℕ → ℕ → Bool
+pool_flag flags k at = get_or (get_or flags k []) at false
 
 -- what a pool has for a place of a page, by the page's slot; what is there now where it has none
 abbrev pub in_slot : {X : Type 0} → (ℕ → ℕ → X) → ℕ → X → ℕ → X
@@ -28,7 +28,7 @@ old_byte o now i = in_slot (pool_byte o.starts.items o.bytes.items) (slot_of o i
 
 -- whether a place was written since
 abbrev pub is_written : OldPages → ℕ → Bool
-is_written o i = in_slot (pool_flag o.flags.items) (slot_of o i) false (i % 4096)
+is_written o i = in_slot (pool_flag o.written.pages) (slot_of o i) false (i % 4096)
 
 -- the bytes of the last sync at n places
 abbrev pub old_bytes : ℕ → List ℕ → OldPages → List ℕ
@@ -48,8 +48,7 @@ free [] = 0
 free (zero ∷ slots) = suc (free slots)
 free (suc k ∷ slots) = free slots
 
--- Slots and pages name each other. The flags of the pages lie one behind the other. The bytes are a page of zeros and at most one page
--- more for each, and each page starts where all its bytes are there. There is room for each page of the disk.
+-- Slots and pages name each other. Each page has its flags. The bytes are a page of zeros and at most one page more for each, and each page starts where all its bytes are there. There is room for each page of the disk.
 pub record IsSound (o : OldPages) : Type 0 where
   pub back : (p k : ℕ) → get_or o.slots.items p 0 ≡ suc k → (k < length o.pages.items) × (get_or o.pages.items k 0 ≡ p)
   pub there : (k : ℕ) → k < length o.pages.items → get_or o.slots.items (get_or o.pages.items k 0) 0 ≡ suc k
@@ -58,7 +57,9 @@ pub record IsSound (o : OldPages) : Type 0 where
   pub zeros : (i : ℕ) → i < 4096 → get_or o.bytes.items i 0 ≡ 0
   pub bytes_least : 4096 ≤ length o.bytes.items
   pub bytes_most : length o.bytes.items ≤ length o.pages.items * 4096 + 4096
-  pub flags_size : length o.flags.items ≡ length o.pages.items * 4096
+  pub written_size : length o.written.pages ≡ length o.pages.items
+  pub written_each : (k : ℕ) → k < length o.pages.items → length (get_or o.written.pages k []) ≡ 4096
+  pub written_most : o.written.most ≡ o.most
   pub few : length o.pages.items + free o.slots.items ≤ length o.slots.items
   pub fits : length o.slots.items ≤ o.most
   pub small : o.most * 4096 + 4096 < 2 ^ 64
@@ -66,7 +67,6 @@ pub record IsSound (o : OldPages) : Type 0 where
   pub pages_room : o.most ≤ vec_capacity o.pages
   pub starts_room : o.most ≤ vec_capacity o.starts
   pub bytes_room : o.most * 4096 + 4096 ≤ vec_capacity o.bytes
-  pub flags_room : o.most * 4096 ≤ vec_capacity o.flags
 
 -- A page of these bytes is in a pool from a start on. What was there stays, and nothing is added for a page that lies behind the bytes.
 pub record StoresPage (bytes : List ℕ) (page start : ℕ) (old new : List ℕ) : Type 0 where

@@ -10,4 +10,5 @@ pub mod Trails
 pub mod TrailParts
 pub mod PowerBooks
 pub mod Fronts
+pub mod Writing
 pub mod Keeping

@@ -14,6 +14,7 @@ mod power_cuts;
 mod powers;
 mod trace_disks;
 mod trails;
+mod written_bytes;
 
 pub use disks::{Disk, DiskError};
 pub use mem_disks::MemDisk;

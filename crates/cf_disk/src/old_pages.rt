@@ -5,14 +5,15 @@ ghost use Rattle.std.specs.Int.{div_ceil};
 ghost use Rattle.cf_disk.specs.Fronts.{filled};
 ghost use Rattle.cf_disk.specs.Keeping.{AreClean, IsSound, KeepsPages, Marks, StoresPage};
 
-use crate::patches::{append, cut_back, fill_up, mark_vec, zeros_in};
+use crate::patches::{append, cut_back, fill_up, put_at_vec, zeros_in};
+use crate::written_bytes::WrittenBytes;
 use cf_base::OutOfMemory;
 use std::alloc::Global;
 
 /// How many bytes a page has.
 pub(crate) const PAGE: usize = 4096;
 
-/// The bytes that pages had at the last sync, and a flag for each byte of them that was written since. They lie in a pool,
+/// The bytes that pages had at the last sync, and which of them were written since. The bytes lie in a pool,
 /// one page behind the other in the order in which they were first written. Pages that lay wholly behind the front of the
 /// disk were zero, and share one page of zeros. So beside that page the pool touches no more memory than the most that was
 /// ever pending at once. Room for all pages of the disk is taken at the start.
@@ -26,7 +27,8 @@ pub(crate) struct OldPages {
     pub(crate) starts: Vec<usize>,
     // A page of zeros, and behind it the bytes of the pages that have some of their own.
     pub(crate) bytes: Vec<u8>,
-    pub(crate) flags: Vec<bool>,
+    // For each page of the pool which of its bytes were written.
+    pub(crate) written: WrittenBytes,
     // How many pages the disk has at most.
     most: usize,
 }
@@ -41,13 +43,6 @@ pub(crate) fn number_at(numbers: &[usize], place: usize) -> usize
     }
 }
 
-fn set_slot(slots: &mut [usize], page: usize, slot: usize)
-    requires { page < length slots.old }
-    ensures { slots.new ≡ set slots.old page slot }
-{
-    slots[page] = slot;
-}
-
 // Frees the slots of some pages.
 fn free_slots(slots: &mut [usize], pages: &[usize])
     requires { (k : ℕ) → k < length pages.now → get_or pages.now k 0 < length slots.old }
@@ -60,14 +55,6 @@ fn free_slots(slots: &mut [usize], pages: &[usize])
 }
 
 // The same of vectors.
-fn set_slot_vec(slots: &mut Vec<usize>, page: usize, slot: usize)
-    requires { page < length slots.old.items }
-    ensures items { slots.new.items ≡ set slots.old.items page slot }
-    ensures capacity { vec_capacity slots.new ≡ vec_capacity slots.old }
-{
-    set_slot(slots, page, slot);
-}
-
 fn free_slots_vec(slots: &mut Vec<usize>, pages: &Vec<usize>)
     requires { (k : ℕ) → k < length pages.now.items → get_or pages.now.items k 0 < length slots.old.items }
     ensures freed { (k : ℕ) → k < length pages.now.items → get_or slots.new.items (get_or pages.now.items k 0) 0 ≡ 0 }
@@ -116,7 +103,7 @@ impl OldPages {
             pages: Vec::with_capacity(alloc, most)?,
             starts: Vec::with_capacity(alloc, most)?,
             bytes: zeros_in(alloc, PAGE, room)?,
-            flags: Vec::with_capacity(alloc, room)?,
+            written: WrittenBytes::new(alloc, most)?,
             most,
         })
     }
@@ -133,8 +120,8 @@ impl OldPages {
         let slot = self.pages.len();
         let start = store_page(&mut self.bytes, bytes, page);
         self.starts.push_reserved(start);
-        fill_up(&mut self.flags, slot * PAGE, false);
-        set_slot_vec(&mut self.slots, page, slot);
+        self.written.add_clean();
+        put_at_vec(&mut self.slots, page, slot);
     }
 
     // Has slots for so many pages.
@@ -143,7 +130,7 @@ impl OldPages {
         requires most { pages ≤ self.old.most }
         ensures sound { IsSound self.new }
         ensures slots { self.new.slots.items ≡ filled pages 0 self.old.slots.items }
-        ensures others { (self.new.pages.items ≡ self.old.pages.items) × (self.new.starts.items ≡ self.old.starts.items) × (self.new.bytes.items ≡ self.old.bytes.items) × (self.new.flags.items ≡ self.old.flags.items) × (self.new.most ≡ self.old.most) }
+        ensures others { (self.new.pages.items ≡ self.old.pages.items) × (self.new.starts.items ≡ self.old.starts.items) × (self.new.bytes.items ≡ self.old.bytes.items) × (self.new.written ≡ self.old.written) × (self.new.most ≡ self.old.most) }
     {
         fill_up(&mut self.slots, pages, 0);
     }
@@ -183,13 +170,9 @@ impl OldPages {
         ensures sound { IsSound self.new }
         ensures marks { Marks from to self.old self.new }
     {
-        let start = (number_at(&self.slots, page) - 1) * PAGE;
-        mark_vec(
-            &mut self.flags,
-            start + (from - page * PAGE),
-            to - from,
-            true,
-        );
+        let low = page * PAGE;
+        let number = number_at(&self.slots, page) - 1;
+        self.written.note(number, from - low, to - low);
     }
 
     /// Marks the places from one up to another as written. Their pages are kept.
@@ -218,6 +201,6 @@ impl OldPages {
         self.pages.clear();
         self.starts.clear();
         cut_back(&mut self.bytes, PAGE);
-        self.flags.clear();
+        self.written.forget();
     }
 }

@@ -1,6 +1,6 @@
 //! Parts of vectors: bytes put over others, and flags set.
 
-ghost use Rattle.std.specs.Prelude.{◌≡◌, ◌≤◌, ◌<◌, ◌+◌, ◌^◌, ◌++◌, ℕ, length, get_or, replicate, IfOk, vec_capacity};
+ghost use Rattle.std.specs.Prelude.{◌≡◌, ◌≤◌, ◌<◌, ◌+◌, ◌^◌, ◌++◌, ℕ, length, get_or, replicate, set, IfOk, vec_capacity};
 ghost use Rattle.cf_disk.specs.Disk.{part};
 ghost use Rattle.cf_disk.specs.Fronts.{filled};
 ghost use Rattle.cf_disk.specs.Splice.{over};
@@ -35,8 +35,16 @@ pub(crate) fn put(bytes: &mut [u8], at: usize, src: &[u8])
     bytes[at..at + src.len()].copy_from_slice(src);
 }
 
+// Puts an item at a place, for the one that is there.
+fn put_at<T: Copy>(items: &mut [T], at: usize, item: T)
+    requires { at < length items.old }
+    ensures { items.new ≡ set items.old at item }
+{
+    items[at] = item;
+}
+
 // Sets each flag.
-fn fill(flags: &mut [bool], value: bool)
+pub(crate) fn fill(flags: &mut [bool], value: bool)
     ensures { flags.new ≡ replicate (length flags.old) value }
 {
     for i in 0..flags.len() {
@@ -59,6 +67,14 @@ pub(crate) fn put_vec(bytes: &mut Vec<u8>, at: usize, src: &[u8])
     ensures capacity { vec_capacity bytes.new ≡ vec_capacity bytes.old }
 {
     put(bytes, at, src);
+}
+
+pub(crate) fn put_at_vec<T: Copy>(items: &mut Vec<T>, at: usize, item: T)
+    requires { at < length items.old.items }
+    ensures items { items.new.items ≡ set items.old.items at item }
+    ensures capacity { vec_capacity items.new ≡ vec_capacity items.old }
+{
+    put_at(items, at, item);
 }
 
 pub(crate) fn mark_vec(flags: &mut Vec<bool>, at: usize, n: usize, value: bool)

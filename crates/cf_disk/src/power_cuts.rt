@@ -69,12 +69,13 @@ fn mix_page(bytes: &mut [u8], pages: &OldPages, page: usize, state: u64) -> u64
     let low = page * PAGE;
     let len = PAGE.min(bytes.len() - low);
     let start = number_at(&pages.starts, slot - 1);
-    let flags = (slot - 1) * PAGE;
+    let mut pending = [false; PAGE];
+    pages.written.copy_flags(slot - 1, &mut pending);
     mix_part(
         bytes,
         low,
         &pages.bytes[start..start + len],
-        &pages.flags[flags..flags + len],
+        &pending[..len],
         state,
     )
 }

@@ -14,6 +14,5 @@ returns-clause-clean c = clear_clean c.args.self.now c.free_slots_vec.new.slots.
 pub returns-clause-sound : goal.returns-clause-sound
 returns-clause-sound c = clear_sound c.args.self.now _ c.requires
     (clear_clean c.args.self.now c.free_slots_vec.new.slots.items c.requires c.free_slots_vec.ensures.freed c.free_slots_vec.ensures.others)
-    c.free_slots_vec.ensures.size c.clear.ensures.items c.clear-2.ensures.items c.cut_back.ensures.size c.cut_back.ensures.stays c.clear-3.ensures.items refl
+    c.free_slots_vec.ensures.size c.clear.ensures.items c.clear-2.ensures.items c.cut_back.ensures.size c.cut_back.ensures.stays c.forget.ensures refl
     (omega (arith, c.free_slots_vec.ensures.capacity)) (omega (arith, c.clear.ensures.capacity)) (omega (arith, c.clear-2.ensures.capacity)) c.cut_back.ensures.capacity
-    (omega (arith, c.clear-3.ensures.capacity))
