@@ -11,3 +11,4 @@ pub mod ByKey
 pub mod Found
 pub mod UploadRecords
 pub mod PutBack
+mod WalkLaws

@@ -4,3 +4,4 @@ pub mod Identities
 pub mod Keys
 pub mod Records
 pub mod Steps
+pub mod Walks

@@ -21,6 +21,7 @@ mod queues;
 mod record_reads;
 mod record_writes;
 mod records;
+mod seen_paths;
 mod uploads;
 
 pub use identities::{Numbers, identity_for, numbers_of};
@@ -31,4 +32,5 @@ pub use queues::Queue;
 pub use record_reads::{read_cursor, read_record, read_seen};
 pub use record_writes::{entry_key, seen_key, spell_cursor, spell_seen, tombstone_key};
 pub use records::Record;
+pub use seen_paths::SeenPaths;
 pub use uploads::{Action, QueueEntry, Tombstone};

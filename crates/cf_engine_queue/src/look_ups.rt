@@ -16,7 +16,7 @@ use cf_base::{AuxRecord, ItemId, OutOfMemory, Rid, SeenPath, Token, Usn, no_such
 use cf_volume_image::AuxRecords;
 use std::alloc::Global;
 
-fn is_same(bytes: &[u8], other: &[u8]) -> bool
+pub(crate) fn is_same(bytes: &[u8], other: &[u8]) -> bool
     ensures { result ≡ same bytes.now other.now }
 {
     bytes == other
@@ -101,7 +101,7 @@ fn is_path(parent: Rid, name: &[u8], number: u64, other: &[u8]) -> bool
 }
 
 // Whether the record of a path seen has this path: under this item of the remote, by this name.
-fn has_path(record: &AuxRecord, parent: Rid, name: &[u8]) -> Result<bool, OutOfMemory>
+pub(crate) fn has_path(record: &AuxRecord, parent: Rid, name: &[u8]) -> Result<bool, OutOfMemory>
     ensures { (p : SeenAt) → IsSeen record.now p → IfOk result (λ x. x ≡ ((parent.0 == p.parent.0) && same name.now p.name)) }
 {
     match number_and_rest(record.value.as_slice()) {
