@@ -9,3 +9,4 @@ pub mod Removed
 pub mod StoredPins
 pub mod Trees
 pub mod Turned
+mod NextTurns

@@ -1,13 +1,14 @@
 -- What an item's turn is.
-use Rattle.std.specs.Prelude.{◌≡◌, Bool, true, false, List, map}
+use Rattle.std.specs.Prelude.{◌≡◌, ◌<◌, ◌≤◌, ℕ, Bool, true, false, List, Option, Some, None, drop, get_or, length, map}
 use Rattle.cf_base.specs.declared.ids.ItemId.{ItemId}
 use Rattle.cf_engine_queue.specs.Books.{tombstone_value}
 use Rattle.cf_engine_queue.specs.declared.uploads.Tombstone as queue
 use Rattle.cf_engine_steps.specs.Answering.{Whole}
 use Rattle.cf_engine_uploads.specs.declared.turns.Course.{Course}
+use Rattle.cf_engine_uploads.specs.declared.turns.Turn.{Turn}
 use Rattle.cf_engine_uploads.specs.declared.turns.Course.TheVariants.{Nothing, New, Moved, Changed, Settled}
 use Rattle.cf_filter_steps.specs.Answering.{IsAt, Sense}
-use Rattle.cf_model.specs.Arrows.{Arrow, ret, unit}
+use Rattle.cf_model.specs.Arrows.{Arrow, each, ret, unit}
 use Rattle.cf_model.specs.Books.{MoveItem, Tombstone}
 use Rattle.cf_model.specs.Items.{Item}
 use Rattle.cf_model.specs.LookUp.{by_depth}
@@ -43,6 +44,15 @@ IsTurn c id s = (i : Item) × IsAt id i s.filter × (done_by c i s ≡ push_turn
 
 pub record PlansTurn {X : Type 0} (W : Whole X) (id : ItemId) (x : X) (c : Course) : Type 0 where
   pub is : (s : State) → W.means x s → IsTurn c id s
+
+-- the turns from one place on are those from another on
+abbrev pub SameTurns : {X : Type 0} → Whole X → List ItemId → ℕ → ℕ → X → Type 0
+SameTurns W ids from to x = (s : State) → W.means x s → each push_turn (drop from ids) s ≡ each push_turn (drop to ids) s
+
+-- The turns from a place on are those from an item on that has something to do. Where there is no such item, they are nothing.
+abbrev pub IsNext : {X : Type 0} → Whole X → List ItemId → ℕ → X → Option Turn → Type 0
+IsNext W ids from x None = SameTurns W ids from (length ids) x
+IsNext W ids from x (Some t) = (from ≤ t.place) × (t.place < length ids) × SameTurns W ids from t.place x × ((d : ItemId) → PlansTurn W (get_or ids t.place d) x t.course)
 
 -- all turns, of these tombstones and of the items as they are now
 abbrev pub push_with : List Tombstone → Arrow State (Unit {0})

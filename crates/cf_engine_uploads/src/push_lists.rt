@@ -10,7 +10,7 @@ ghost use Rattle.cf_model.specs.Pushes.{push_all, push_lists, push_turn};
 
 use crate::removals::push_tombstone;
 use crate::senders::Sender;
-use crate::turns::push_turn;
+use crate::turns::{next_turn, take_turn};
 use cf_base::{CallError, ItemId};
 use cf_engine_host::EngineHost;
 use cf_engine_queue::Tombstone;
@@ -42,8 +42,10 @@ fn push_items<S: EngineHost, R: Remote, T: Sender>(
 ) -> Result<(), CallError>
     ensures { Answers (whole S.sense R.told) Any (each push_turn ids.now) (s.old, e.old) result (s.new, e.new) }
 {
-    for id in ids {
-        push_turn(s, e, sender, *id)?;
+    let mut from = 0;
+    while let Some(turn) = next_turn(s, e, ids, from)? {
+        take_turn(s, e, sender, ids[turn.place], turn.course)?;
+        from = turn.place + 1;
     }
     Ok(())
 }

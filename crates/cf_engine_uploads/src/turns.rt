@@ -1,9 +1,12 @@
 //! The turn of an item.
 
-ghost use Rattle.std.specs.Prelude.{◌≡◌, ◌||◌, IfOk};
+ghost use Rattle.std.specs.Prelude.{◌≡◌, ◌||◌, ◌≤◌, length, IfOk};
 ghost use Rattle.cf_engine_steps.specs.Answering.{Answers, Any};
 ghost use Rattle.cf_engine_steps.specs.States.{whole};
-ghost use Rattle.cf_engine_uploads.specs.Turns.{IsCase, IsLeftOut, PlansTurn, is_nothing};
+ghost use Rattle.cf_engine_host.specs.BookSteps.{records_of};
+ghost use Rattle.cf_engine_steps.specs.Marks.{StandsIf};
+ghost use Rattle.cf_engine_uploads.specs.Turns.{IsCase, IsLeftOut, IsNext, PlansTurn, is_nothing};
+ghost use Rattle.cf_filter_steps.specs.Answering.{Any as AnyFilter, Reads as FilterReads};
 ghost use Rattle.cf_model.specs.Pushes.{push_turn};
 
 use crate::exclusions::is_excluded;
@@ -12,8 +15,8 @@ use crate::senders::Sender;
 use crate::uploads::push_place;
 use cf_base::{CallError, ItemId, OutOfMemory};
 use cf_engine_host::EngineHost;
-use cf_engine_queue::Action;
-use cf_engine_steps::{Engine, NO_RID, has_entry, parent_target, stands_at_seen, target_of};
+use cf_engine_queue::{Action, SeenPaths};
+use cf_engine_steps::{Engine, NO_RID, has_entry, parent_target, target_of};
 use cf_filter_steps::Steps;
 use cf_remote::Remote;
 use cf_table::{ROOT, Row};
@@ -31,6 +34,13 @@ pub(crate) enum Course {
     Changed,
     /// It is to be marked.
     Settled,
+}
+
+/// An item that has something to do: its place among those that are asked, and what that is.
+#[derive(Clone, Copy)]
+pub(crate) struct Turn {
+    pub(crate) place: usize,
+    pub(crate) course: Course,
 }
 
 fn any_of(root: bool, sent: bool, held: bool, excluded: bool, astray: bool) -> bool
@@ -61,15 +71,31 @@ fn is_left_out<S: EngineHost, R: Remote>(
     ))
 }
 
+// Whether the item stands at the path at which it was seen.
+fn stands_at_seen<S: EngineHost>(
+    s: &S,
+    seen: &mut SeenPaths<'_>,
+    row: &Row,
+) -> Result<bool, OutOfMemory>
+    requires { FilterReads S.sense AnyFilter records_of s.now seen.old }
+    ensures stands { IfOk result (StandsIf S.sense row.now s.now) }
+    ensures stays { seen.new ≡ seen.old }
+{
+    let parent = parent_target(s, row)?;
+    seen.is_at(row.id, parent, row.name.as_slice())
+}
+
 // The first case that holds.
-fn case_of<S: EngineHost>(s: &S, row: &Row) -> Result<Course, OutOfMemory>
-    ensures { IfOk result (IsCase S.sense row.now s.now) }
+fn case_of<S: EngineHost>(s: &S, seen: &mut SeenPaths<'_>, row: &Row) -> Result<Course, OutOfMemory>
+    requires { FilterReads S.sense AnyFilter records_of s.now seen.old }
+    ensures case { IfOk result (IsCase S.sense row.now s.now) }
+    ensures stays { seen.new ≡ seen.old }
 {
     let target = target_of(row)?;
     if target.0 == NO_RID.0 {
         return Ok(Course::New);
     }
-    if !stands_at_seen(s, row)? {
+    if !stands_at_seen(s, seen, row)? {
         return Ok(Course::Moved);
     }
     if row.dirty {
@@ -94,14 +120,17 @@ fn is_nothing(course: Course) -> bool
 fn course_of<S: EngineHost, R: Remote>(
     s: &S,
     e: &Engine<R>,
+    seen: &mut SeenPaths<'_>,
     id: ItemId,
 ) -> Result<Course, OutOfMemory>
-    ensures { IfOk result (PlansTurn (whole S.sense R.told) id (s.now, e.now)) }
+    requires { FilterReads S.sense AnyFilter records_of s.now seen.old }
+    ensures plans { IfOk result (PlansTurn (whole S.sense R.told) id (s.now, e.now)) }
+    ensures stays { seen.new ≡ seen.old }
 {
     let Some(row) = s.rows().get(id) else {
         return Ok(Course::Nothing);
     };
-    let course = case_of(s, row)?;
+    let course = case_of(s, seen, row)?;
     if is_nothing(course) {
         return Ok(Course::Nothing);
     }
@@ -111,16 +140,39 @@ fn course_of<S: EngineHost, R: Remote>(
     Ok(course)
 }
 
+/// The first item from a place on that has something to do. The items before it have nothing to do, and neither has any where this is
+/// none. A step for each, where they stand in order of id.
+pub(crate) fn next_turn<S: EngineHost, R: Remote>(
+    s: &S,
+    e: &Engine<R>,
+    ids: &[ItemId],
+    from: usize,
+) -> Result<Option<Turn>, OutOfMemory>
+    requires { from ≤ length ids.now }
+    ensures { IfOk result (IsNext (whole S.sense R.told) ids.now from (s.now, e.now)) }
+{
+    let mut seen = SeenPaths::new(s.records());
+    for place in from..ids.len() {
+        let course = course_of(s, e, &mut seen, ids[place])?;
+        if !is_nothing(course) {
+            return Ok(Some(Turn { place, course }));
+        }
+    }
+    Ok(None)
+}
+
 /// Does what an item needs to be in sync, as it is at its turn: an upload, or a mark.
-pub(crate) fn push_turn<S: EngineHost, R: Remote, T: Sender>(
+pub(crate) fn take_turn<S: EngineHost, R: Remote, T: Sender>(
     s: &mut S,
     e: &mut Engine<R>,
     sender: &T,
     id: ItemId,
+    course: Course,
 ) -> Result<(), CallError>
+    requires { PlansTurn (whole S.sense R.told) id (s.old, e.old) course }
     ensures { Answers (whole S.sense R.told) Any (push_turn id) (s.old, e.old) result (s.new, e.new) }
 {
-    match course_of(s, e, id)? {
+    match course {
         Course::Nothing => Ok(()),
         Course::New => upload_new(s, e, sender, id),
         Course::Moved => push_place(s, e, sender, Action::Move, id),

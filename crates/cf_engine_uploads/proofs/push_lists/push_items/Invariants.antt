@@ -1,4 +1,4 @@
-use Rattle.std.proofs.Common.{drop}
+use Rattle.std.proofs.Common.{◌-◌, ◌≤◌, drop, length}
 use Rattle.std.specs.Prelude.{Result}
 use Rattle.cf_base.specs.declared.codes.CallError.{CallError}
 use Rattle.cf_engine_steps.specs.Answering.{Answers, Any}
@@ -8,5 +8,11 @@ use Rattle.cf_model.specs.Arrows.{each}
 use Rattle.cf_engine_uploads.proofs.push_lists.push_items.Given as goal
 
 -- what the turns that are left answer all answer
-abbrev pub invariant-loop-id : goal.invariant-loop-id
-invariant-loop-id g l = (r : Result (Unit {0}) CallError) (u : _) → Answers (whole g.S.Steps.sense g.R.Remote.told) Any (each push_turn (drop l.id-index l.ids)) (l.s, l.e) r u → Answers (whole g.S.Steps.sense g.R.Remote.told) Any (each push_turn l.ids) (l.fn.s, l.fn.e) r u
+abbrev pub invariant-loop-turn : goal.invariant-loop-turn
+invariant-loop-turn g l = record {
+  left : (r : Result (Unit {0}) CallError) (u : _) → Answers (whole g.S.Steps.sense g.R.Remote.told) Any (each push_turn (drop l.from l.ids)) (l.s, l.e) r u → Answers (whole g.S.Steps.sense g.R.Remote.told) Any (each push_turn l.ids) (l.fn.s, l.fn.e) r u;
+  within : l.from ≤ length l.ids;
+}
+
+abbrev pub decreases-loop-turn : goal.decreases-loop-turn
+decreases-loop-turn g l = length l.ids - l.from
