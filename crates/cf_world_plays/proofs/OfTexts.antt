@@ -17,7 +17,6 @@ use Rattle.cf_world_plays.specs.Runs.{IsAfterReading, IsComplete, IsLength, IsUn
 use Rattle.cf_world_devices.proofs.Sources.{long_text, not_quiet, some_text, whole_text}
 use Rattle.cf_world_devices.specs.Sizes.{IsFit}
 use Rattle.cf_world_plays.specs.declared.outputs.Output.{Output}
-use Rattle.cf_world_plays.specs.declared.outputs.Output.TheVariants as output
 use Rattle.cf_world_plays.specs.Steps.{read_status}
 
 pub short_enough : (s : Status) (text : List ℕ) → length text ≤ most_script → IsAfterReading s → IsLength s text

@@ -3,11 +3,11 @@ use Rattle.std.proofs.Common.{◌≡◌, ◌≤◌, ◌+◌, ℕ, true, false, L
 use Rattle.std.specs.Prelude.{Option, Some, None, IfOk, is_some}
 use Rattle.cf_filter_events.proofs.Wholes.{hands_hold}
 use Rattle.cf_filter_events.specs.Actors.{Acts, IsActor}
-use Rattle.cf_filter_events.specs.Counted.{CountsOver, GoesOn}
-use Rattle.cf_filter_events.specs.Faulted.{Faults, faults_shown}
+use Rattle.cf_filter_events.specs.Counted.{GoesOn}
+use Rattle.cf_filter_events.specs.Faulted.{faults_shown}
 use Rattle.cf_filter_events.specs.Meaning.{Is, LeavesWhatReads}
 use Rattle.cf_filter_events.specs.Pasts.{Gains, Past, StandsFor, last_image}
-use Rattle.cf_filter_events.specs.Stepped.{Bears, StepsOver, actor_of, disk_of}
+use Rattle.cf_filter_events.specs.Stepped.{actor_of, disk_of}
 use Rattle.cf_filter_events.specs.declared.places.Acting.{Acting}
 use Rattle.cf_base.specs.declared.answers.Answer.{Answer}
 use Rattle.cf_base.specs.declared.events.Event.{Event}
@@ -26,6 +26,7 @@ use Rattle.cf_volume_points.specs.Standing.{clusters_for}
 use Rattle.cf_world_plays.proofs.Counted.{armed_more, armed_none, at_most, met_more, met_none}
 use Rattle.cf_world_plays.proofs.OverPowers.{after_all, gains_then, last_then, listed_push, over_push, over_runs}
 use Rattle.cf_world_plays.proofs.RemoteCounts.{faulted_more, faulted_none}
+use Rattle.cf_world_plays.specs.Acted.{Acted}
 use Rattle.cf_world_plays.specs.Led.{HasRunOn, LeadsActor, LeadsWorld, LeavesActor, LeavesText, UsesFew, met_by}
 use Rattle.cf_world_plays.specs.RemoteFaults.{faults_by}
 use Rattle.cf_world_plays.specs.Steps.{IsLawfulFrom}
@@ -38,15 +39,15 @@ module _ {D A : Type 0} (state : D → Disk) (W : Acts A) where
 
   -- one more event
 
-  world_more : {answers : Answering A} (actor : IsActor answers W) (held : Held) (disk : D) (first : A) (trace : List (Event × Answer)) (old new : Acting D A) (e : Event) (a : Answer) → StepsOver W.mode (Is W state) e old (Ok a) new → CountsOver (Is W state) e old (Ok a) (state (disk_of old)) (state (disk_of new)) → Bears e (state (disk_of old)) (state (disk_of new))
-      → Faults (Is W state) old (Ok a) (W.remote (actor_of old)) (W.remote (actor_of new)) → LeadsWorld state W held disk first trace old → LeadsWorld state W held disk first (trace ++ (e, a) ∷ []) new
-  world_more {answers} actor held disk first trace old new e a steps counts bears faults r =
+  world_more : {answers : Answering A} (actor : IsActor answers W) (held : Held) (disk : D) (first : A) (trace : List (Event × Answer)) (old new : Acting D A) (e : Event) (a : Answer)
+      → Acted state W e (Ok a) old new → LeadsWorld state W held disk first trace old → LeadsWorld state W held disk first (trace ++ (e, a) ∷ []) new
+  world_more {answers} actor held disk first trace old new e a acted r =
       let last : Option (List ℕ) = last_image None r.powers in
-      let t = steps.leads (record { told = r.told; last = last }) r.left r.is in
-      let failed = faults.failed (record { told = r.told; last = last }) r.left r.is in
+      let t = acted.steps.leads (record { told = r.told; last = last }) r.left r.is in
+      let failed = acted.faults.failed (record { told = r.told; last = last }) r.left r.is in
       let asked = actor.asked (actor_of old) r.left (hands_hold answers W actor state (record { told = r.told; last = last }) old r.left r.is) in
       let asks = actor.asked (actor_of new) t.0 (hands_hold answers W actor state t.2 new t.0 t.6) in
-      let counted = counts.counts (record { told = r.told; last = last }) r.left r.is in
+      let counted = acted.counts.counts (record { told = r.told; last = last }) r.left r.is in
       let all : t.2.last ≡ last_image None (r.powers ++ t.1) = after_all StandsFor last e a t.0 t.1 t.2.last t.4 ∙ last_then None r.powers t.1 in
       record {
         left = t.0;
@@ -55,7 +56,7 @@ module _ {D A : Type 0} (state : D → Disk) (W : Acts A) where
         runs = over_push StandsFor W.mode None (start W.mode held (clusters_for (state disk))) r.left t.0 trace r.powers t.1 e a t.2.last r.runs t.3 t.4;
         gains = gains_then r.powers t.1 (state disk).powers r.told t.2.told r.gains t.5;
         met = met_more trace e a (state disk).faults (state (disk_of old)) (state (disk_of new)) r.met counted;
-        armed = λ none. armed_more trace e a (state (disk_of old)) (state (disk_of new)) bears counted (r.armed none);
+        armed = λ none. armed_more trace e a (state (disk_of old)) (state (disk_of new)) acted.bears counted (r.armed none);
         faulted = faulted_more trace e a (W.remote first).faults (W.remote (actor_of old)) (W.remote (actor_of new)) r.faulted failed;
         exactly = λ fails begun.
             let so = r.exactly fails begun in (
@@ -66,19 +67,18 @@ module _ {D A : Type 0} (state : D → Disk) (W : Acts A) where
         is = subst (λ (o : Option (List ℕ)). Is W state (record { told = t.2.told; last = o }) new t.0) all t.6;
       }
 
-  goes : {answers : Answering A} (actor : IsActor answers W) (disk : D) (first : A) (trace : List (Event × Answer)) (old new : Option (Acting D A)) (e : Event) (a : Answer) → ((x y : Acting D A) → old ≡ Some x → new ≡ Some y → StepsOver W.mode (Is W state) e x (Ok a) y) → ((x y : Acting D A) → old ≡ Some x → new ≡ Some y → CountsOver (Is W state) e x (Ok a) (state (disk_of x)) (state (disk_of y))) → ((x y : Acting D A) → old ≡ Some x → new ≡ Some y → Bears e (state (disk_of x)) (state (disk_of y)))
-      → ((x y : Acting D A) → old ≡ Some x → new ≡ Some y → Faults (Is W state) x (Ok a) (W.remote (actor_of x)) (W.remote (actor_of y))) → is_some new ≡ true
-      → HasRunOn state W disk first trace old → HasRunOn state W disk first (trace ++ (e, a) ∷ []) new
-  goes actor disk first trace None new e a steps counts bears faults there h = absurd h
-  goes actor disk first trace (Some x) None e a steps counts bears faults there h = let z : false ≡ true = there in absurd cc
-  goes actor disk first trace (Some x) (Some y) e a steps counts bears faults there h = λ held stood. world_more actor held disk first trace x y e a (steps x y refl refl) (counts x y refl refl) (bears x y refl refl) (faults x y refl refl) (h held stood)
+  goes : {answers : Answering A} (actor : IsActor answers W) (disk : D) (first : A) (trace : List (Event × Answer)) (old new : Option (Acting D A)) (e : Event) (a : Answer)
+      → ((x y : Acting D A) → old ≡ Some x → new ≡ Some y → Acted state W e (Ok a) x y) → is_some new ≡ true → HasRunOn state W disk first trace old → HasRunOn state W disk first (trace ++ (e, a) ∷ []) new
+  goes actor disk first trace None new e a acted there h = absurd h
+  goes actor disk first trace (Some x) None e a acted there h = let z : false ≡ true = there in absurd cc
+  goes actor disk first trace (Some x) (Some y) e a acted there h = λ held stood. world_more actor held disk first trace x y e a (acted x y refl refl) (h held stood)
 
   -- the event with its answer, if there is one
-  pub acts : {answers : Answering A} (actor : IsActor answers W) (r : Result Answer NoMemory) (old new : Option (Acting D A)) (e : Event) → ((x y : Acting D A) → old ≡ Some x → new ≡ Some y → StepsOver W.mode (Is W state) e x r y) → ((x y : Acting D A) → old ≡ Some x → new ≡ Some y → CountsOver (Is W state) e x r (state (disk_of x)) (state (disk_of y))) → ((x y : Acting D A) → old ≡ Some x → new ≡ Some y → Bears e (state (disk_of x)) (state (disk_of y)))
-      → ((x y : Acting D A) → old ≡ Some x → new ≡ Some y → Faults (Is W state) x r (W.remote (actor_of x)) (W.remote (actor_of y))) → is_some new ≡ true
+  pub acts : {answers : Answering A} (actor : IsActor answers W) (r : Result Answer NoMemory) (old new : Option (Acting D A)) (e : Event)
+      → ((x y : Acting D A) → old ≡ Some x → new ≡ Some y → Acted state W e r x y) → is_some new ≡ true
       → IfOk r (λ a. (disk : D) (first : A) (trace : List (Event × Answer)) → HasRunOn state W disk first trace old → HasRunOn state W disk first (trace ++ (e, a) ∷ []) new)
-  acts actor (Ok a) old new e steps counts bears faults there = λ disk first trace h. goes actor disk first trace old new e a steps counts bears faults there h
-  acts actor (Err x) old new e steps counts bears faults there = tt
+  acts actor (Ok a) old new e acted there = λ disk first trace h. goes actor disk first trace old new e a acted there h
+  acts actor (Err x) old new e acted there = tt
 
   -- a world in which nothing has happened
   pub begins : (disk : D) (first : A) (a : Acting D A) → ((held : Held) → W.stands first (start W.mode held (clusters_for (state disk))) → (past : Past) → past.told ≡ (state disk).powers → Is W state past a (start W.mode held (clusters_for (state disk)))) → GoesOn (state disk) (state (disk_of a)) → actor_of a ≡ first

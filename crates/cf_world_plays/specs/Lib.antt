@@ -1,4 +1,5 @@
 pub mod RemoteFaults
+pub mod Acted
 pub mod Led
 pub mod Runs
 pub mod Outputs

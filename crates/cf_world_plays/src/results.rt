@@ -22,7 +22,11 @@ use cf_filter_events::Actor;
 use cf_io::Sink;
 use std::alloc::Global;
 
-/// Does the events, and writes what is asked for.
+/// Makes a volume on the disk, does the events, and writes what is asked for: the report, or what is there behind the last event. Disk and
+/// actor come back as the events left them.
+///
+/// `Done` where all was written. `DeviceFault` where the device stopped the start, or the reads of its image behind the last event: then
+/// nothing was written. `SinkFault` where the sink failed, `TooLong` where the report has too many bytes, and `OutOfMemory`.
 pub fn put_out<K: Sink, D: Disk + Drop, A: Actor + Drop>(
     alloc: Global,
     output: Output,

@@ -2,10 +2,6 @@
 
 ghost use Rattle.std.specs.Prelude.{◌≡◌, ◌++◌, ◌∷◌, [], is_some, IfErr, IfOk, List, Some, false, true};
 ghost use Rattle.cf_filter_events.specs.Actors.{is_device_event};
-ghost use Rattle.cf_filter_events.specs.Counted.{CountsOver};
-ghost use Rattle.cf_filter_events.specs.Faulted.{Faults};
-ghost use Rattle.cf_filter_events.specs.Meaning.{Is};
-ghost use Rattle.cf_filter_events.specs.Stepped.{Bears, StepsOver, actor_of, disk_of};
 ghost use Rattle.cf_filter_events.specs.declared.places.Acting.{Acting as Hands};
 ghost use Rattle.cf_base.specs.declared.answers.Answer.{Answer as Answered};
 ghost use Rattle.cf_base.specs.declared.events.Event.{Event as Done};
@@ -14,6 +10,7 @@ ghost use Rattle.cf_journal.specs.Settled.{IsFitSize};
 ghost use Rattle.cf_model.specs.Events.{is_of};
 ghost use Rattle.cf_volume.specs.Calls.{IsCause, StopsOnly};
 ghost use Rattle.cf_state.specs.Texts.{state_text, used_blocks};
+ghost use Rattle.cf_world_plays.specs.Acted.{Acted};
 ghost use Rattle.cf_world_plays.specs.Led.{HasRunOn, LeavesActor, LeavesText};
 
 use cf_base::{Answer, Blob, CallError, Event, OutOfMemory};
@@ -167,10 +164,7 @@ fn act_on<D: Disk + Drop, A: Actor + Drop>(
 ) -> Result<Answer, OutOfMemory>
     requires whole { is_some acting.old ≡ true }
     requires of { is_of A.acts.mode event.now ≡ true }
-    ensures ok { (a b : Hands D A) → acting.old ≡ Some a → acting.new ≡ Some b → StepsOver A.acts.mode (Is A.acts D.state) event.now a result b }
-    ensures counts { (a b : Hands D A) → acting.old ≡ Some a → acting.new ≡ Some b → CountsOver (Is A.acts D.state) event.now a result (D.state (disk_of a)) (D.state (disk_of b)) }
-    ensures device { (a b : Hands D A) → acting.old ≡ Some a → acting.new ≡ Some b → Bears event.now (D.state (disk_of a)) (D.state (disk_of b)) }
-    ensures faults { (a b : Hands D A) → acting.old ≡ Some a → acting.new ≡ Some b → Faults (Is A.acts D.state) a result (A.acts.remote (actor_of a)) (A.acts.remote (actor_of b)) }
+    ensures acted { (a b : Hands D A) → acting.old ≡ Some a → acting.new ≡ Some b → Acted D.state A.acts event.now result a b }
     ensures whole { is_some acting.new ≡ true }
 {
     match event {
@@ -187,10 +181,7 @@ fn step_on<D: Disk + Drop, A: Actor + Drop>(
 ) -> Result<Answer, OutOfMemory>
     requires whole { is_some acting.old ≡ true }
     requires of { is_of A.acts.mode event.now ≡ true }
-    ensures ok { (a b : Hands D A) → acting.old ≡ Some a → acting.new ≡ Some b → StepsOver A.acts.mode (Is A.acts D.state) event.now a result b }
-    ensures counts { (a b : Hands D A) → acting.old ≡ Some a → acting.new ≡ Some b → CountsOver (Is A.acts D.state) event.now a result (D.state (disk_of a)) (D.state (disk_of b)) }
-    ensures device { (a b : Hands D A) → acting.old ≡ Some a → acting.new ≡ Some b → Bears event.now (D.state (disk_of a)) (D.state (disk_of b)) }
-    ensures faults { (a b : Hands D A) → acting.old ≡ Some a → acting.new ≡ Some b → Faults (Is A.acts D.state) a result (A.acts.remote (actor_of a)) (A.acts.remote (actor_of b)) }
+    ensures acted { (a b : Hands D A) → acting.old ≡ Some a → acting.new ≡ Some b → Acted D.state A.acts event.now result a b }
     ensures whole { is_some acting.new ≡ true }
 {
     let Some(begun) = acting.take() else {
@@ -210,10 +201,7 @@ fn stay_on<D: Disk + Drop, A: Actor + Drop>(
     requires whole { is_some acting.old ≡ true }
     requires of { is_of A.acts.mode event.now ≡ true }
     requires other { is_device_event event.now ≡ false }
-    ensures ok { (a b : Hands D A) → acting.old ≡ Some a → acting.new ≡ Some b → StepsOver A.acts.mode (Is A.acts D.state) event.now a result b }
-    ensures counts { (a b : Hands D A) → acting.old ≡ Some a → acting.new ≡ Some b → CountsOver (Is A.acts D.state) event.now a result (D.state (disk_of a)) (D.state (disk_of b)) }
-    ensures device { (a b : Hands D A) → acting.old ≡ Some a → acting.new ≡ Some b → Bears event.now (D.state (disk_of a)) (D.state (disk_of b)) }
-    ensures faults { (a b : Hands D A) → acting.old ≡ Some a → acting.new ≡ Some b → Faults (Is A.acts D.state) a result (A.acts.remote (actor_of a)) (A.acts.remote (actor_of b)) }
+    ensures acted { (a b : Hands D A) → acting.old ≡ Some a → acting.new ≡ Some b → Acted D.state A.acts event.now result a b }
     ensures whole { is_some acting.new ≡ true }
 {
     match acting {
