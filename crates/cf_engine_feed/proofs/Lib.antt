@@ -7,3 +7,4 @@ pub mod IndexedParts
 pub mod IndexSteps
 pub mod PlannedTurns
 pub mod StepRuns
+mod NoEntries

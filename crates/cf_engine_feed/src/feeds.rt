@@ -28,7 +28,7 @@ fn apply_entries<S: EngineHost, R: Remote>(
 /// Each entry has its turn: dead ones first, the deepest local item first, then the live ones as they came, then dead directories that
 /// were not empty. Then nothing is held back any more, and the cursor becomes the clock where no entry was postponed, no step was left
 /// out, and no directory's entries are asked for. Beside what its steps take, it takes time as the entries and the items times the
-/// logarithm of the items; the rows are walked for an item of the remote that several local items are.
+/// logarithm of the items, and none without entries; the rows are walked for an item of the remote that several local items are.
 ///
 /// A step that finds no room is left out, and the later steps of its entry with it. An entry of its own parent, which no reply that fits
 /// has, and an identity that no engine gave are answered as out of memory. A stop of the device leaves the step begun in which it stopped.

@@ -178,7 +178,7 @@ fn turns_with<S: EngineHost, R: Remote>(
     done
 }
 
-/// Gives each entry its turn. Whether one was postponed.
+/// Gives each entry its turn. Whether one was postponed. Without entries no row is looked at.
 pub(crate) fn all_turns<S: EngineHost, R: Remote>(
     s: &mut S,
     e: &mut Engine<R>,
@@ -186,6 +186,9 @@ pub(crate) fn all_turns<S: EngineHost, R: Remote>(
 ) -> Result<bool, CallError>
     ensures { (later : List ℕ) × Answers (whole S.sense R.told) Any (all_turns entries.now) (s.old, e.old) (fed_of entries.now result later) (s.new, e.new) }
 {
+    if entries.is_empty() {
+        return Ok(false);
+    }
     let mut targets = Targets::new(s.alloc());
     let done = turns_with(s, e, &mut targets, entries);
     drop(targets);
