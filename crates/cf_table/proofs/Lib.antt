@@ -36,3 +36,4 @@ pub mod TableLens
 pub mod TableMeans
 pub mod Taken
 pub mod Told
+mod RowBounds

@@ -54,13 +54,63 @@ impl Row {
     }
 }
 
-/// Where the row with the id is, or where it would go.
-pub(crate) fn find_row(rows: &[Row], id: u64) -> Result<usize, usize>
+// The rows before this place have lower ids. From it on there are no more rows than ids up to the last one.
+fn lowest_place(rows: &[Row], id: u64) -> usize
+    requires { RisesFrom 0 rows.now }
+    ensures within { result ≤ length rows.now }
+    ensures lower { (k : ℕ) (d : Row) → k < result → (get_or rows.now k d).id.0 < id }
+{
+    let Some(last) = rows.last() else {
+        return 0;
+    };
+    if last.id.0 < id {
+        return rows.len();
+    }
+    (rows.len() - 1).saturating_sub((last.id.0 - id) as usize)
+}
+
+// The rows from this place on have higher ids. Before it there are no more rows than ids from the first one on.
+fn end_place(rows: &[Row], id: u64) -> usize
+    requires { RisesFrom 0 rows.now }
+    ensures within { result ≤ length rows.now }
+    ensures higher { (k : ℕ) (d : Row) → result ≤ k → k < length rows.now → id < (get_or rows.now k d).id.0 }
+{
+    let Some(first) = rows.first() else {
+        return 0;
+    };
+    if id < first.id.0 {
+        return 0;
+    }
+    let place = (id - first.id.0) as usize;
+    if place < rows.len() {
+        place + 1
+    } else {
+        rows.len()
+    }
+}
+
+// Where the row with the id is, or where it would go, by a search by halves.
+fn search_rows(rows: &[Row], id: u64) -> Result<usize, usize>
     requires { RisesFrom 0 rows.now }
     ensures found { IfOk result (IsRowAt rows.now id) }
     ensures absent { IfErr result (IsRowGap rows.now id) }
 {
     rows.binary_search_by_key(&id, |row| row.id.0)
+}
+
+/// Where the row with the id is, or where it would go. It is searched for where it can be at all: at one place, where no id between
+/// the first one and the last one was left out.
+pub(crate) fn find_row(rows: &[Row], id: u64) -> Result<usize, usize>
+    requires { RisesFrom 0 rows.now }
+    ensures found { IfOk result (IsRowAt rows.now id) }
+    ensures absent { IfErr result (IsRowGap rows.now id) }
+{
+    let low = lowest_place(rows, id);
+    let end = end_place(rows, id);
+    match search_rows(&rows[low..end], id) {
+        Ok(place) => Ok(low + place),
+        Err(place) => Err(low + place),
+    }
 }
 
 /// The pin of the row with the id, and Unspecified where there is none.
