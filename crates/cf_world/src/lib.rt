@@ -11,8 +11,11 @@
 
 mod checks;
 mod explanations;
+mod finishes;
 mod recordings;
 mod runs;
+mod scripts;
+mod sources;
 
-pub use cf_world_scripts::Finish;
+pub use finishes::Finish;
 pub use runs::run;

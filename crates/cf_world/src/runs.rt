@@ -19,6 +19,9 @@ ghost use Rattle.cf_world_plays.specs.declared.outputs.Ending.TheVariants as end
 ghost use Rattle.cf_world_plays.specs.declared.outputs.Output.TheVariants as outputs;
 
 use crate::checks::{Checked, check_report};
+use crate::finishes::Finish;
+use crate::scripts::scripted;
+use crate::sources::sourced;
 use cf_base::{Mode, Status};
 use cf_cli::{Command, WordsError, command_of};
 use cf_disk::Disk;
@@ -27,7 +30,6 @@ use cf_io::{Sink, Source};
 use cf_remote::Remote;
 use cf_world_devices::{judge, migrate};
 use cf_world_plays::{Ending, Output};
-use cf_world_scripts::{Finish, scripted, sourced};
 use std::alloc::Global;
 
 /// Does what the words after the program's name say. `replay` and `filter` read a script from the source, do its events on the disk and

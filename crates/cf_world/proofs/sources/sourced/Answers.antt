@@ -1,7 +1,7 @@
 use Rattle.std.proofs.Common.{◌≡◌, ap, Err, refl}
 use Rattle.cf_world_devices.proofs.Adding.{adds_nothing}
 use Rattle.cf_world_plays.proofs.OfTexts.{read_text, unread_text}
-use Rattle.cf_world_scripts.proofs.sources.sourced.Goals as goal
+use Rattle.cf_world.proofs.sources.sourced.Goals as goal
 
 pub returns-in-Ok-clause-text : goal.returns-in-Ok-clause-text
 returns-in-Ok-clause-text g c =

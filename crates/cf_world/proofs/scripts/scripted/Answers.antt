@@ -1,5 +1,5 @@
 use Rattle.cf_world_plays.proofs.Concluded.{refused_as}
-use Rattle.cf_world_scripts.proofs.scripts.scripted.Goals as goal
+use Rattle.cf_world.proofs.scripts.scripted.Goals as goal
 
 pub returns-in-Err-clause-writes : goal.returns-in-Err-clause-writes
 returns-in-Err-clause-writes g c =

@@ -21,7 +21,7 @@ use cf_world_plays::{MOST_SCRIPT_BYTES, Output, unscripted};
 use std::alloc::Global;
 
 /// Reads the source, does its script, and writes what is asked for.
-pub fn sourced<S: Source, K: Sink, D: Disk + Drop, R: Remote + Drop>(
+pub(crate) fn sourced<S: Source, K: Sink, D: Disk + Drop, R: Remote + Drop>(
     alloc: Global,
     mode: Mode,
     output: Output,

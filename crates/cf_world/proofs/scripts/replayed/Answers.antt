@@ -5,7 +5,7 @@ use Rattle.cf_world_plays.proofs.Commanded.{replay_leaves, written_as}
 use Rattle.cf_world_plays.proofs.RemoteCounts.{remote_count}
 use Rattle.cf_world_plays.proofs.ModeEvents.{all_of_mode}
 use Rattle.cf_link.specs.Listed.{Lists}
-use Rattle.cf_world_scripts.proofs.scripts.replayed.Goals as goal
+use Rattle.cf_world.proofs.scripts.replayed.Goals as goal
 
 pub returns-clause-writes : goal.returns-clause-writes
 returns-clause-writes g c =

@@ -5,7 +5,7 @@ use Rattle.cf_world_plays.proofs.Commanded.{written}
 use Rattle.cf_world_plays.proofs.RemoteCounts.{never, never_faulted}
 use Rattle.cf_world_plays.proofs.ModeEvents.{all_of_mode}
 use Rattle.cf_world_plays.specs.RemoteFaults.{faults_by}
-use Rattle.cf_world_scripts.proofs.scripts.filtered.Goals as goal
+use Rattle.cf_world.proofs.scripts.filtered.Goals as goal
 
 pub returns-clause-writes : goal.returns-clause-writes
 returns-clause-writes g c =

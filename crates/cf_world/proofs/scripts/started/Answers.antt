@@ -1,6 +1,6 @@
 use Rattle.cf_world_devices.proofs.Adding.{adds_nothing}
 use Rattle.cf_world_plays.proofs.Concluded.{unfit_as}
-use Rattle.cf_world_scripts.proofs.scripts.started.Goals as goal
+use Rattle.cf_world.proofs.scripts.started.Goals as goal
 
 pub returns-then-not-is_fit-clause-writes : goal.returns-then-not-is_fit-clause-writes
 returns-then-not-is_fit-clause-writes g c =

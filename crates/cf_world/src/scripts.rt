@@ -27,7 +27,7 @@ use cf_world_plays::{Output, put_out, refuse, report};
 use std::alloc::Global;
 
 /// Reads the script, does its events, and writes what is asked for: of `filter` the report.
-pub fn scripted<K: Sink, D: Disk + Drop, R: Remote + Drop>(
+pub(crate) fn scripted<K: Sink, D: Disk + Drop, R: Remote + Drop>(
     alloc: Global,
     mode: Mode,
     output: Output,
