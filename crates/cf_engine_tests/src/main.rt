@@ -1,5 +1,7 @@
 //! Tests of messages, the remote, the link and the parts of an engine. What comes of a feed's entries, of events of another
 //! device and of messages in turn, scripts show.
+//!
+//! Nothing stands on tests, so they are a program, which does nothing.
 #![tactic(auto)]
 
 #[cfg(test)]
@@ -16,3 +18,5 @@ mod link;
 mod remote;
 #[cfg(test)]
 mod wire;
+
+fn main() {}
