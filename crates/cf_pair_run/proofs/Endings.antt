@@ -13,7 +13,7 @@ use Rattle.cf_pair_run.specs.Runs.{AreFit, IsRefusal, OfText, Refuses, Trace, Wr
 use Rattle.cf_pair_run.specs.UnderWay.{AllPlayed, SomePlayed, WritesRefusal}
 use Rattle.cf_pair_script.specs.Causes.{IsCause}
 use Rattle.cf_pair_script.specs.PairScript.{IsScript}
-use Rattle.cf_pair_world.specs.declared.worlds.PairWorld.{PairWorld}
+use Rattle.cf_pair_run.specs.declared.worlds.PairWorld.{PairWorld}
 use Rattle.cf_remote.specs.Told.{Told}
 use Rattle.cf_script.specs.Script.{lines_of}
 use Rattle.cf_script.specs.declared.script_errors.ScriptError.{ScriptError}

@@ -1,3 +1,9 @@
+pub mod Beginning
+pub mod Comparing
+pub mod Laning
+pub mod Moving
+pub mod Stepping
+pub mod Turning
 pub mod Agreed
 pub mod Endings
 pub mod OverCuts

@@ -14,7 +14,7 @@ use Rattle.cf_pair_model.specs.declared.devices.Device.TheVariants as device
 use Rattle.cf_pair_run.specs.Led.{RunsOver}
 use Rattle.cf_pair_settled.specs.Settled.{SaysEqual}
 use Rattle.cf_pair_traces.specs.Pairs.{IsPairStep, Pair, PairRuns}
-use Rattle.cf_pair_world.specs.Owned.{PowerBy, own}
+use Rattle.cf_pair_run.specs.Owned.{PowerBy, own}
 use Rattle.cf_world_plays.proofs.OverPowers.{power_last, power_more, same_last}
 
 -- more power cuts behind those of an event

@@ -13,8 +13,8 @@ use Rattle.cf_pair_run.proofs.WorldRuns.{run_lawful, run_more}
 use Rattle.cf_pair_run.specs.Led.{HasRun}
 use Rattle.cf_pair_run.specs.Runs.{IsLawful, Trace, events_of, report_of}
 use Rattle.cf_pair_run.specs.UnderWay.{FrontPlayed, IsPut, IsUnderWay, PutFails, SomePlayed}
-use Rattle.cf_pair_world.specs.Steps.{Steps}
-use Rattle.cf_pair_world.specs.declared.worlds.PairWorld.{PairWorld}
+use Rattle.cf_pair_run.specs.Steps.{Steps}
+use Rattle.cf_pair_run.specs.declared.worlds.PairWorld.{PairWorld}
 use Rattle.cf_remote.specs.Told.{Told}
 use Rattle.cf_world_plays.proofs.Drafted.{drafted_stops_here}
 use Rattle.cf_world_plays.specs.Steps.{IsDrafted}

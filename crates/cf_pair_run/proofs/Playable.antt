@@ -6,7 +6,7 @@ use Rattle.cf_pair_events.specs.declared.events.PairEvent.{PairEvent}
 use Rattle.cf_pair_events.specs.declared.events.PairEvent.TheVariants as pair
 use Rattle.cf_pair_model.specs.declared.devices.Device.{Device}
 use Rattle.cf_pair_script.specs.PairScript.{AreEvents, IsScript, SpellsBy, parts_of}
-use Rattle.cf_pair_world.specs.Owned.{is_playable}
+use Rattle.cf_pair_run.specs.Owned.{is_playable}
 use Rattle.cf_script.specs.Script.{event_lines, lines_of}
 
 by_parts : (o : Option (Device × List ℕ)) (line : List ℕ) (e : PairEvent) → SpellsBy o line e → is_playable e ≡ true

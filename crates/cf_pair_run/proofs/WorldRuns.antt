@@ -23,10 +23,10 @@ use Rattle.cf_pair_run.proofs.OverCuts.{by_last, over_push, over_runs}
 use Rattle.cf_pair_run.specs.Led.{HasRun, Leads, LeadsWorld, LeavesDisk, LedDisk, events_by, faults_by, with_some}
 use Rattle.cf_pair_run.specs.Runs.{IsLawful}
 use Rattle.cf_pair_traces.specs.Pairs.{Pair, start_pair}
-use Rattle.cf_pair_world.specs.Owned.{Owned, faults_of, own}
-use Rattle.cf_pair_world.specs.Sharing.{Shares}
-use Rattle.cf_pair_world.specs.Steps.{Begun, Steps}
-use Rattle.cf_pair_world.specs.declared.worlds.PairWorld.{PairWorld}
+use Rattle.cf_pair_run.specs.Owned.{Owned, faults_of, own}
+use Rattle.cf_pair_run.specs.Sharing.{Shares}
+use Rattle.cf_pair_run.specs.Steps.{Begun, Steps}
+use Rattle.cf_pair_run.specs.declared.worlds.PairWorld.{PairWorld}
 use Rattle.cf_remote.specs.Peers.{IsHeld}
 use Rattle.cf_remote.specs.Told.{Told}
 use Rattle.cf_volume_points.specs.Standing.{clusters_for}

@@ -24,9 +24,9 @@ use Rattle.cf_pair_model.specs.declared.devices.Device.{Device}
 use Rattle.cf_pair_model.specs.declared.devices.Device.TheVariants as device
 use Rattle.cf_pair_settled.specs.Settled.{SaysEqual}
 use Rattle.cf_pair_traces.specs.Pairs.{IsPairStep, Pair, PairRuns, path_row, path_rows, start_pair}
-use Rattle.cf_pair_world.specs.Owned.{PowerBy, faults_of, own}
-use Rattle.cf_pair_world.specs.Sharing.{Shares}
-use Rattle.cf_pair_world.specs.declared.worlds.PairWorld.{PairWorld}
+use Rattle.cf_pair_run.specs.Owned.{PowerBy, faults_of, own}
+use Rattle.cf_pair_run.specs.Sharing.{Shares}
+use Rattle.cf_pair_run.specs.declared.worlds.PairWorld.{PairWorld}
 use Rattle.cf_remote.specs.Peers.{IsHeld}
 use Rattle.cf_remote.specs.Told.{Told}
 use Rattle.cf_volume_points.specs.Standing.{clusters_for}

@@ -10,7 +10,7 @@ use Rattle.cf_pair_events.specs.declared.events.PairEvent.{PairEvent}
 use Rattle.cf_pair_report.specs.Texts.{text as text_of}
 use Rattle.cf_pair_run.specs.Led.{HasRun}
 use Rattle.cf_pair_run.specs.Runs.{IsLawful, Refuses, RefusesFront, Trace, events_of, report_of}
-use Rattle.cf_pair_world.specs.declared.worlds.PairWorld.{PairWorld}
+use Rattle.cf_pair_run.specs.declared.worlds.PairWorld.{PairWorld}
 use Rattle.cf_remote.specs.Told.{Told}
 use Rattle.cf_world_plays.specs.Runs.{most_report}
 use Rattle.cf_world_plays.specs.Steps.{AddFails, IsDrafted}

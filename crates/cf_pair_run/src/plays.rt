@@ -6,15 +6,15 @@ ghost use Rattle.cf_io.specs.Moves.{Adds, AddsFront, Rose};
 ghost use Rattle.cf_pair_report.specs.Texts.{text as text_of};
 ghost use Rattle.cf_pair_run.specs.Led.{HasRun};
 ghost use Rattle.cf_pair_run.specs.UnderWay.{AllPlayed, IsPut, PutFails, SomePlayed};
-ghost use Rattle.cf_pair_world.specs.Owned.{is_playable};
+ghost use Rattle.cf_pair_run.specs.Owned.{is_playable};
 ghost use Rattle.cf_world_plays.specs.Steps.{AddFails, IsDrafted};
 
+use crate::worlds::PairWorld;
 use cf_base::OutOfMemory;
 use cf_disk::Disk;
 use cf_io::{Sink, write_all};
 use cf_pair_events::{PairAnswer, PairEvent};
 use cf_pair_report::text;
-use cf_pair_world::PairWorld;
 use cf_remote::Remote;
 use cf_world_plays::{PlayError, add};
 use std::alloc::Global;

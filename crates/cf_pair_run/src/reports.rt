@@ -11,11 +11,11 @@ ghost use Rattle.cf_world_plays.specs.Runs.{IsOfReport, IsPlayed, most_script};
 
 use crate::plays::play;
 use crate::runs::PairFinish;
+use crate::worlds::PairWorld;
 use cf_base::Status;
 use cf_disk::Disk;
 use cf_io::Sink;
 use cf_pair_events::PairEvent;
-use cf_pair_world::PairWorld;
 use cf_remote::Remote;
 use cf_world_plays::{status_of, unstarted};
 use std::alloc::Global;

@@ -4,7 +4,7 @@ use Rattle.cf_pair_run.proofs.PairTraces.{if_err, on_ok, played_all, played_stop
 use Rattle.cf_pair_run.specs.Led.{HasRun}
 use Rattle.cf_pair_run.specs.Runs.{report_of}
 use Rattle.cf_pair_run.specs.UnderWay.{SomePlayed}
-use Rattle.cf_pair_world.specs.Owned.{is_playable}
+use Rattle.cf_pair_run.specs.Owned.{is_playable}
 use Rattle.cf_world_devices.proofs.Adding.{adds_nothing}
 use Rattle.cf_world_plays.proofs.Drafted.{drafted_all}
 use Rattle.cf_world_plays.proofs.Traces.{all_there}

@@ -3,7 +3,7 @@ use Rattle.std.specs.Prelude.{IsTrue}
 use Rattle.std.specs.List.{list_all}
 use Rattle.cf_pair_run.specs.Led.{HasRun}
 use Rattle.cf_pair_run.specs.UnderWay.{IsUnderWay}
-use Rattle.cf_pair_world.specs.Owned.{is_playable}
+use Rattle.cf_pair_run.specs.Owned.{is_playable}
 use Rattle.cf_pair_run.proofs.plays.play.Given as goal
 
 abbrev pub invariant-loop-event : goal.invariant-loop-event

@@ -1,6 +1,0 @@
-pub mod Beginning
-pub mod Comparing
-pub mod Laning
-pub mod Moving
-pub mod Stepping
-pub mod Turning

@@ -1,4 +1,0 @@
-pub mod Owned
-pub mod Sharing
-pub mod Steps
-pub mod Turns
