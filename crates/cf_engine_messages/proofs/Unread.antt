@@ -1,5 +1,5 @@
 -- Replies without entries: all that the items here tell of them is that an upload made one of them.
-use Rattle.std.proofs.Common.{◌≡◌, Bool, true, false, cond, List, [], ◌&&◌, ◌==◌, refl}
+use Rattle.std.proofs.Common.{◌≡◌, Bool, true, false, cond, List, [], ◌∷◌, ◌&&◌, ◌==◌, refl}
 use Rattle.std.specs.Prelude.{None, Some, not, nat_lt}
 use Rattle.cf_base.specs.declared.ids.Rid.{Rid}
 use Rattle.cf_base.specs.declared.messages.Reply.{Reply}
@@ -25,8 +25,26 @@ done_but ks false lt eq true told = refl
 done_but ks s lt eq false told = and_true (s && eq)
 
 pub unread : (ks : List Known) (settled : Rid) (q : Request) (r : Reply) → has_entries r ≡ false → fits ks settled q r ≡ (fits [] settled q r && not (is_one_of ks (made_item q settled r)))
-unread ks settled q (reply.Feed round clock es) none = impossible none
-unread ks settled q (reply.Listing key es) none = impossible none
+unread ks settled q (reply.Feed round clock (e ∷ es)) none = impossible none
+unread ks settled q (reply.Listing key (e ∷ es)) none = impossible none
+unread ks settled (request.Feed a b) (reply.Feed round clock []) none = and_true (fits [] settled (request.Feed a b) (reply.Feed round clock []))
+unread ks settled (request.Feed a b) (reply.Listing key []) none = and_true (fits [] settled (request.Feed a b) (reply.Listing key []))
+unread ks settled (request.List a b) (reply.Feed round clock []) none = and_true (fits [] settled (request.List a b) (reply.Feed round clock []))
+unread ks settled (request.List a b) (reply.Listing key []) none = and_true (fits [] settled (request.List a b) (reply.Listing key []))
+unread ks settled (request.Fetch a b c d p) (reply.Feed round clock []) none = and_true (fits [] settled (request.Fetch a b c d p) (reply.Feed round clock []))
+unread ks settled (request.Fetch a b c d p) (reply.Listing key []) none = and_true (fits [] settled (request.Fetch a b c d p) (reply.Listing key []))
+unread ks settled (request.Put a b c d p f) (reply.Feed round clock []) none = and_true (fits [] settled (request.Put a b c d p f) (reply.Feed round clock []))
+unread ks settled (request.Put a b c d p f) (reply.Listing key []) none = and_true (fits [] settled (request.Put a b c d p f) (reply.Listing key []))
+unread ks settled (request.MakeDir a b c) (reply.Feed round clock []) none = and_true (fits [] settled (request.MakeDir a b c) (reply.Feed round clock []))
+unread ks settled (request.MakeDir a b c) (reply.Listing key []) none = and_true (fits [] settled (request.MakeDir a b c) (reply.Listing key []))
+unread ks settled (request.Move a b c d) (reply.Feed round clock []) none = and_true (fits [] settled (request.Move a b c d) (reply.Feed round clock []))
+unread ks settled (request.Move a b c d) (reply.Listing key []) none = and_true (fits [] settled (request.Move a b c d) (reply.Listing key []))
+unread ks settled (request.Remove a b c) (reply.Feed round clock []) none = and_true (fits [] settled (request.Remove a b c) (reply.Feed round clock []))
+unread ks settled (request.Remove a b c) (reply.Listing key []) none = and_true (fits [] settled (request.Remove a b c) (reply.Listing key []))
+unread ks settled (request.Settle a) (reply.Feed round clock []) none = and_true (fits [] settled (request.Settle a) (reply.Feed round clock []))
+unread ks settled (request.Settle a) (reply.Listing key []) none = and_true (fits [] settled (request.Settle a) (reply.Listing key []))
+unread ks settled (request.Keep a b) (reply.Feed round clock []) none = and_true (fits [] settled (request.Keep a b) (reply.Feed round clock []))
+unread ks settled (request.Keep a b) (reply.Listing key []) none = and_true (fits [] settled (request.Keep a b) (reply.Listing key []))
 unread ks settled (request.Feed a b) (reply.Done t told v) none = refl
 unread ks settled (request.Feed a b) (reply.Void t) none = and_true (fits [] settled (request.Feed a b) (reply.Void t))
 unread ks settled (request.Feed a b) (reply.Refused t w v) none = and_true (fits [] settled (request.Feed a b) (reply.Refused t w v))

@@ -16,7 +16,7 @@ use Rattle.cf_model.specs.Numbers.{no_rid}
 use Rattle.cf_model.specs.PushReplies.{is_new_entry}
 use Rattle.cf_model.specs.Requests.{live_of}
 use Rattle.cf_model.specs.State.{Filter, State}
-use Rattle.cf_model.specs.Words.{part}
+use Rattle.cf_model.specs.Words.{is_empty, part}
 
 -- the upload that a request asks how it went
 abbrev pub settled_token : Request → Option Token
@@ -47,8 +47,8 @@ is_new _ settled = true
 
 -- the reply has entries, which may be of items that are here
 abbrev pub has_entries : Reply → Bool
-has_entries (reply.Feed round clock es) = true
-has_entries (reply.Listing key es) = true
+has_entries (reply.Feed round clock es) = not (is_empty es)
+has_entries (reply.Listing key es) = not (is_empty es)
 has_entries _ = false
 
 -- the item that an upload made anew

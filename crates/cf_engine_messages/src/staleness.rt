@@ -1,6 +1,7 @@
 //! Whether a reply is stale.
 
-ghost use Rattle.std.specs.Prelude.{◌≡◌, ◌||◌, IfOk, List, false};
+ghost use Rattle.std.specs.Prelude.{◌≡◌, ◌||◌, IfOk, List, false, not};
+ghost use Rattle.cf_model.specs.Words.{is_empty};
 ghost use Rattle.cf_base.specs.declared.messages.Entry.{Entry};
 ghost use Rattle.cf_base.specs.declared.messages.Reply.TheVariants as reply;
 ghost use Rattle.cf_engine_messages.specs.Staleness.{fits_in, fits_with, has_entries, is_ended_in, is_feed_over, is_here, is_idle_in, is_new, is_old_now, is_unlisted_in, made_item, rid_under, settled_token};
@@ -9,7 +10,7 @@ ghost use Rattle.cf_engine_steps.specs.States.{whole};
 ghost use Rattle.cf_model.specs.Messages.{is_stale};
 ghost use Rattle.cf_filter_steps.specs.Answering.{Any as AnyFilter, Reads as FilterReads};
 
-use cf_base::{Key, OutOfMemory, Reply, Request, Rid, Round, Token};
+use cf_base::{Entry, Key, OutOfMemory, Reply, Request, Rid, Round, Sequence, Token};
 use cf_engine_feed::walk_item;
 use cf_engine_host::EngineHost;
 use cf_engine_provider::locals_of;
@@ -55,13 +56,19 @@ fn is_new(request: &Request, settled: Rid) -> bool
     }
 }
 
+fn has_any(entries: &Sequence<Entry>) -> bool
+    ensures { result ≡ not (is_empty entries.now) }
+{
+    !entries.as_slice().is_empty()
+}
+
 // Whether the reply has entries, which may be of items that are here.
 fn has_reply_entries(reply: &Reply) -> bool
     ensures { result ≡ has_entries reply.now }
 {
     match reply {
-        Reply::Feed { .. } => true,
-        Reply::Listing { .. } => true,
+        Reply::Feed { entries, .. } => has_any(entries),
+        Reply::Listing { entries, .. } => has_any(entries),
         _ => false,
     }
 }
