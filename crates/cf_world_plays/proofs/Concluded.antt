@@ -17,7 +17,7 @@ use Rattle.cf_gen.specs.declared.summaries.Counts.{Counts}
 use Rattle.cf_io.specs.Moves.{Adds, AddsFront, Rose}
 use Rattle.cf_model.specs.State.{State}
 use Rattle.cf_script.specs.Script.{IsScript}
-use Rattle.cf_state.specs.Texts.{state_text, used_blocks}
+use Rattle.cf_world_plays.specs.States.{state_text, used_blocks}
 use Rattle.cf_volume.specs.Calls.{IsCause, StopsOnly}
 use Rattle.cf_world_devices.proofs.Adding.{adds_nothing}
 use Rattle.cf_world_plays.proofs.Ends.{long_said, refusal_written}

@@ -11,3 +11,4 @@ pub mod WorldRuns
 pub mod OverPowers
 pub mod OfTexts
 mod Imaged
+pub mod Standing

@@ -21,7 +21,7 @@ use Rattle.cf_link.specs.Listed.{Lists}
 use Rattle.cf_model.specs.Powers.{StandsNow}
 use Rattle.cf_model.specs.State.{State, start}
 use Rattle.cf_model.specs.Store.{Held}
-use Rattle.cf_state.proofs.Standing.{few_blocks, most_blocks}
+use Rattle.cf_world_plays.proofs.Standing.{few_blocks, most_blocks}
 use Rattle.cf_volume_points.specs.Standing.{clusters_for}
 use Rattle.cf_world_plays.proofs.Counted.{armed_more, armed_none, at_most, met_more, met_none}
 use Rattle.cf_world_plays.proofs.OverPowers.{after_all, gains_then, last_then, listed_push, over_push, over_runs}

@@ -29,7 +29,7 @@ use Rattle.cf_model_laws.specs.Premises.{IsFresh}
 use Rattle.cf_model_settling.specs.Settling.{SettlesIfSilent}
 use Rattle.cf_remote.specs.Peers.{IsCount, IsHeld}
 use Rattle.cf_remote.specs.Told.{Told}
-use Rattle.cf_state.specs.Texts.{used_blocks}
+use Rattle.cf_world_plays.specs.States.{used_blocks}
 use Rattle.cf_volume_points.specs.Standing.{clusters_for, clusters_on}
 use Rattle.cf_world_plays.specs.RemoteFaults.{ReportsExactly, ReportsListed, faults_by}
 

@@ -4,3 +4,5 @@ pub mod Led
 pub mod Runs
 pub mod Outputs
 pub mod Steps
+pub mod StateExamples
+pub mod States

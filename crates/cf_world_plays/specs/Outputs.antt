@@ -18,7 +18,7 @@ use Rattle.cf_model.specs.Store.{Held}
 use Rattle.cf_remote.specs.Told.{Told}
 use Rattle.cf_report.specs.Texts.{texts}
 use Rattle.cf_script.specs.Script.{IsScript}
-use Rattle.cf_state.specs.Texts.{state_text, used_blocks}
+use Rattle.cf_world_plays.specs.States.{state_text, used_blocks}
 use Rattle.cf_volume_points.specs.Standing.{clusters_for}
 use Rattle.cf_world_plays.specs.Led.{Begins, Leads, LeadsActor, LeadsDisk, LeavesActor, Stood}
 use Rattle.cf_world_plays.specs.Runs.{IsComplete, IsGood, IsLength, IsUnfit, Refuses, RefusesFront, ReportsLong, WritesOf, answers_of, events_of, most_report, most_script}

@@ -6,6 +6,7 @@
 //! lawful answer is, `cf_model` says; what is written, specs/Runs and specs/Outputs.
 #![tactic(auto)]
 
+mod blocks;
 mod conclusions;
 mod drafts;
 mod images;
@@ -15,6 +16,8 @@ mod plays;
 mod refusals;
 mod reports;
 mod results;
+mod state_laws;
+mod states;
 mod worlds;
 
 pub use drafts::add;
@@ -23,4 +26,6 @@ pub use play_errors::PlayError;
 pub use refusals::{MOST_SCRIPT_BYTES, early, refuse, unscripted, write_fail};
 pub use reports::{Played, report, status_of, unstarted};
 pub use results::put_out;
+pub use state_laws::{a_file_shows_its_runs, a_new_volume_shows_its_root, no_volume_is_shown_off};
+pub use states::{state_text, used_blocks};
 pub use worlds::World;

@@ -9,14 +9,14 @@ ghost use Rattle.cf_disk.specs.Disk.{size_of};
 ghost use Rattle.cf_journal.specs.Settled.{IsFitSize};
 ghost use Rattle.cf_model.specs.Events.{is_of};
 ghost use Rattle.cf_volume.specs.Calls.{IsCause, StopsOnly};
-ghost use Rattle.cf_state.specs.Texts.{state_text, used_blocks};
+ghost use Rattle.cf_world_plays.specs.States.{state_text, used_blocks};
 ghost use Rattle.cf_world_plays.specs.Acted.{Acted};
 ghost use Rattle.cf_world_plays.specs.Led.{HasRunOn, LeavesActor, LeavesText};
 
+use crate::states::{state_text, used_blocks};
 use cf_base::{Answer, Blob, CallError, Event, OutOfMemory};
 use cf_disk::Disk;
 use cf_filter_events::{Acting, Actor};
-use cf_state::{state_text, used_blocks};
 use std::alloc::Global;
 use std::marker::Model;
 

@@ -1,5 +1,5 @@
 use Rattle.std.proofs.Common.{◌≡◌}
-use Rattle.cf_state.specs.Texts.{used_blocks}
+use Rattle.cf_world_plays.specs.States.{used_blocks}
 use Rattle.cf_world_plays.proofs.WorldRuns.{few_in, gives_text}
 use Rattle.cf_world_plays.proofs.worlds.blocks_of.Goals as goal
 

@@ -1,6 +1,6 @@
 use Rattle.std.proofs.Common.{◌≡◌}
 use Rattle.std.specs.Prelude.{IfOk}
-use Rattle.cf_state.specs.Texts.{state_text}
+use Rattle.cf_world_plays.specs.States.{state_text}
 use Rattle.cf_world_plays.proofs.WorldRuns.{few_in, gives_text}
 use Rattle.cf_world_plays.proofs.worlds.state_of.Goals as goal
 

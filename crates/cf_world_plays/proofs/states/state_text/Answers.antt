@@ -1,10 +1,10 @@
 use Rattle.std.proofs.Common.{sym, ◌∙◌, ap, subst}
 use Rattle.cf_filter_events.specs.Meaning.{Is}
 use Rattle.cf_filter_events.specs.declared.places.Acting.{Acting}
-use Rattle.cf_state.proofs.Standing.{text_on}
+use Rattle.cf_world_plays.proofs.Standing.{text_on}
 use Rattle.cf_table.specs.Tables.{MeansAll, Table}
 use Rattle.cf_volume_points.specs.Known.{Known}
-use Rattle.cf_state.proofs.state_text.Goals as goal
+use Rattle.cf_world_plays.proofs.states.state_text.Goals as goal
 
 pub returns-in-On : goal.returns-in-On
 returns-in-On g c = λ past s is.

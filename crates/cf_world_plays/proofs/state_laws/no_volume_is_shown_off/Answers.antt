@@ -1,9 +1,9 @@
 use Rattle.std.proofs.Common.{ap}
 use Rattle.serde_json.proofs.OnLiterals.{serde_json_on_literals}
 use Rattle.cf_model.specs.State.{Power}
-use Rattle.cf_state.specs.Texts.{state_value}
+use Rattle.cf_world_plays.specs.States.{state_value}
 use Rattle.cf_state_rows.specs.Values.{line_of}
-use Rattle.cf_state.proofs.laws.no_volume_is_shown_off.Goals as goal
+use Rattle.cf_world_plays.proofs.state_laws.no_volume_is_shown_off.Goals as goal
 
 pub returns : goal.returns
 unfolding serde_json_on_literals

@@ -1,12 +1,12 @@
 use Rattle.std.proofs.Common.{◌∙◌, List, ap, length, min, subst}
 use Rattle.cf_filter_events.specs.Meaning.{Is}
 use Rattle.cf_filter_events.specs.declared.places.Acting.{Acting}
-use Rattle.cf_state.proofs.Standing.{used_on}
+use Rattle.cf_world_plays.proofs.Standing.{used_on}
 use Rattle.cf_table.specs.Tables.{Table}
 use Rattle.cf_table.specs.declared.rows.Row.{Row}
 use Rattle.cf_volume_points.specs.Clusters.{clusters_in_rows}
 use Rattle.cf_volume_points.specs.Known.{Known}
-use Rattle.cf_state.proofs.used_blocks.Goals as goal
+use Rattle.cf_world_plays.proofs.states.used_blocks.Goals as goal
 
 pub returns-in-On : goal.returns-in-On
 returns-in-On g c = λ past s is.

@@ -4,8 +4,8 @@ ghost use Rattle.std.specs.Prelude.{◌≡◌, ◌∷◌, ◌++◌, [], ℕ, cod
 ghost use Rattle.cf_base.specs.declared.policies.Mode.{Mode};
 ghost use Rattle.cf_model.specs.State.{Off, State, start};
 ghost use Rattle.cf_model.specs.Store.{Held};
-ghost use Rattle.cf_state.specs.Examples.{two_runs};
-ghost use Rattle.cf_state.specs.Texts.{state_text};
+ghost use Rattle.cf_world_plays.specs.StateExamples.{two_runs};
+ghost use Rattle.cf_world_plays.specs.States.{state_text};
 ghost use Rattle.cf_state_rows.specs.Values.{line_of, volume_value};
 
 /// At the start there is the root alone.

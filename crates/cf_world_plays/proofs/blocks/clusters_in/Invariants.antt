@@ -1,6 +1,6 @@
 use Rattle.std.proofs.Common.{◌≡◌, ◌+◌, drop, length, min}
 use Rattle.cf_volume_points.specs.Clusters.{clusters_in_rows}
-use Rattle.cf_state.proofs.blocks.clusters_in.Given as goal
+use Rattle.cf_world_plays.proofs.blocks.clusters_in.Given as goal
 
 -- the clusters counted so far, with those of the rows that are left, are all
 abbrev pub invariant-loop-row : goal.invariant-loop-row

@@ -3,23 +3,18 @@
 //! `state_text` promises the bytes of the definition `state_text`, for each state that the world stands for. While the volume is
 //! broken by a device call that failed, the rows in memory still mean the items of that state; but the clusters that a stopped
 //! change took may be more than the rows name, so `used_blocks` counts those of the rows.
-#![tactic(auto)]
-
-mod blocks;
-mod laws;
 
 ghost use Rattle.std.specs.Prelude.{◌≡◌, IfOk};
 ghost use Rattle.cf_filter_events.specs.Meaning.{Is};
 ghost use Rattle.cf_filter_events.specs.Pasts.{Past};
 ghost use Rattle.cf_model.specs.State.{State};
-ghost use Rattle.cf_state.specs.Texts.{state_text, used_blocks};
+ghost use Rattle.cf_world_plays.specs.States.{state_text, used_blocks};
 
-use blocks::clusters_in;
+use crate::blocks::clusters_in;
 use cf_base::{Blob, OutOfMemory};
 use cf_disk::Disk;
 use cf_filter_events::{Acting, Actor};
 use cf_state_rows::{off_line, volume_line};
-pub use laws::{a_file_shows_its_runs, a_new_volume_shows_its_root, no_volume_is_shown_off};
 use std::alloc::Global;
 
 /// The state of the world as a line of compact JSON, which ends with byte 10: the count of accepted changes, the epoch, and what

@@ -16,7 +16,7 @@ use Rattle.cf_filter_machine.specs.Showing.{Shows}
 use Rattle.cf_model.specs.Blocks.{blocks_used}
 use Rattle.cf_model.specs.Items.{Item}
 use Rattle.cf_model.specs.State.{Broken, Off, On, Power, State, Volume}
-use Rattle.cf_state.specs.Texts.{state_text, state_value, used_blocks, used_in}
+use Rattle.cf_world_plays.specs.States.{state_text, state_value, used_blocks, used_in}
 use Rattle.cf_state_rows.specs.Values.{line_of, volume_value}
 use Rattle.cf_table.specs.Tables.{MeansAll}
 use Rattle.cf_volume_points.specs.Clusters.{clusters_in_rows}
