@@ -229,7 +229,7 @@ fn either(unfit: bool, old: bool) -> bool
 /// Whether a reply does not fit the request that it answers, or nothing waits for it any more: its key or token is not live; it is a
 /// listing while an item that is new to the remote is on its way there; or it is a feed that is not of the latest round, whose round was
 /// closed, that is older than the cursor, or that came while an upload was on its way. It takes time by the entries of the reply as sorting
-/// does at most; of a feed and of a listing also by the items so, and of the item that an upload made by the items.
+/// does at most; where it has entries also by the items so, and of the item that an upload made by the items.
 pub fn is_stale<S: EngineHost, R: Remote>(
     s: &S,
     e: &Engine<R>,
