@@ -1,7 +1,7 @@
 //! Lists in chunks.
 
 ghost use Rattle.std.specs.Prelude.{◌≡◌, ◌≤◌, ◌<◌, ◌+◌, ◌++◌, ◌∷◌, [], List, length, IfOk, IfSome, OnErr, OnOk, get_or};
-ghost use Rattle.cf_collections.specs.Split.{AreFilled, behind, flat, front, IsSplit, rest};
+ghost use Rattle.cf_collections.specs.Split.{AreFilled, behind, flat, front, IsSplit, last_passes, rest};
 
 use crate::chunks::Chunk;
 use crate::items::Items;
@@ -94,8 +94,8 @@ impl<T: Drop> ChunkedList<T> {
         ensures ok { OnOk result (self.new ≡ front (O.is_behind order.now item) self.old ++ item ∷ behind (O.is_behind order.now item) self.old) }
         ensures err { OnErr result (self.new ≡ self.old) }
     {
-        make_room(&mut self.chunks, &PlaceOf { order, item: &item })?;
-        insert_item(self.alloc, &mut self.chunks, order, item)
+        let place = make_room(&mut self.chunks, &PlaceOf { order, item: &item })?;
+        insert_item(self.alloc, &mut self.chunks, place, order, item)
     }
 }
 
@@ -176,18 +176,24 @@ fn halve_full<T: Drop>(chunks: &mut Vec<Chunk<T>>) -> Result<(), OutOfMemory>
     Ok(())
 }
 
-// Halves the chunk that the place is in, if it is full.
-fn make_room<T: Drop, P: Probe<T>>(chunks: &mut Vec<Chunk<T>>, probe: &P) -> Result<(), OutOfMemory>
+// Which chunk the place is in. It is halved first, if it is full.
+fn make_room<T: Drop, P: Probe<T>>(
+    chunks: &mut Vec<Chunk<T>>,
+    probe: &P,
+) -> Result<usize, OutOfMemory>
     requires filled { AreFilled chunks.old.items }
     requires split { IsSplit (P.is_behind probe.now) (flat chunks.old.items) }
     ensures same { flat chunks.new.items ≡ flat chunks.old.items }
     ensures filled { AreFilled chunks.new.items }
+    ensures place { IfOk result (λ place. place ≡ length (front (last_passes (P.is_behind probe.now)) chunks.new.items)) }
+    ensures within { IfOk result (λ place. place ≤ length chunks.new.items) }
 {
     let place = count_chunks_before(chunks, probe);
     if place < chunks.len() && chunks[place].is_full() {
-        return halve_chunk(chunks, place);
+        halve_chunk(chunks, place)?;
+        return Ok(count_chunks_before(chunks, probe));
     }
-    Ok(())
+    Ok(place)
 }
 
 // Adds an item at the end: to the last chunk, or where that is full as a chunk of its own.
@@ -205,19 +211,22 @@ fn push_item<T: Drop>(alloc: Global, chunks: &mut Vec<Chunk<T>>, item: T) -> Res
     Ok(())
 }
 
+// Puts an item into the chunk that its place is in.
 fn insert_item<T: Drop, O: Order<T>>(
     alloc: Global,
     chunks: &mut Vec<Chunk<T>>,
+    place: usize,
     order: &O,
     item: T,
 ) -> Result<(), OutOfMemory>
     requires filled { AreFilled chunks.old.items }
     requires split { IsSplit (O.is_behind order.now item) (flat chunks.old.items) }
+    requires place { place ≡ length (front (last_passes (O.is_behind order.now item)) chunks.old.items) }
+    requires within { place ≤ length chunks.old.items }
     ensures ok { OnOk result (flat chunks.new.items ≡ front (O.is_behind order.now item) (flat chunks.old.items) ++ item ∷ behind (O.is_behind order.now item) (flat chunks.old.items)) }
     ensures filled { AreFilled chunks.new.items }
     ensures err { OnErr result (flat chunks.new.items ≡ flat chunks.old.items) }
 {
-    let place = count_chunks_before(chunks, &PlaceOf { order, item: &item });
     if place == chunks.len() {
         return push_item(alloc, chunks, item);
     }
