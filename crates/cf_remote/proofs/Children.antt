@@ -1,6 +1,6 @@
 -- The entry of a name among the children of a directory, which are in order of name.
 use Rattle.std.proofs.Common.{◌≡◌, inl, inr, ℕ, Bool, true, false, List, [], ◌∷◌, map, refl, sym, ap, ◌∙◌, subst, ◌==◌, ◌&&◌}
-use Rattle.std.specs.Prelude.{Some, None, filter, get_or, option_map}
+use Rattle.std.specs.Prelude.{Option, Some, None, filter, get_or, option_map}
 use Rattle.std.specs.List.{list_all, list_any}
 use Rattle.std.specs.Cmp.Lexicographic.{slice_cmp}
 use Rattle.std.specs.Ordering.{is_eq, nat_cmp, ordering_reverse}
@@ -11,14 +11,13 @@ use Rattle.cf_base.specs.declared.messages.Entry.{Entry}
 use Rattle.cf_model.specs.Fits.{are_distinct, are_named_apart}
 use Rattle.cf_model.specs.Growth.{CountsFrom}
 use Rattle.cf_model.specs.Peers.{named}
-use Rattle.cf_model.specs.Store.{Stored, entry_told, stored_at}
+use Rattle.cf_model.specs.Store.{Stored, entry_told}
 use Rattle.cf_model.specs.Words.{comes_before, same, sorted}
 use Rattle.cf_remote.specs.Listable.{AreApart}
-use Rattle.cf_remote.specs.Order.{Has, IsAt, IsGap, IsIndex, against, children}
+use Rattle.cf_remote.specs.Order.{Has, IsAt, IsFound, IsGap, IsIndex, against, children}
 use Rattle.cf_remote.proofs.Listings.{Ascends, In, before_in, before_is, before_itself, has_told, listing_is, lt_from, told_ascends, told_has}
-use Rattle.cf_remote.proofs.Members.{filter_has, has_filter, same_item, stored_has}
+use Rattle.cf_remote.proofs.Members.{filter_has, has_filter, has_get, same_item}
 use Rattle.cf_remote.proofs.Placing.{filter_rises}
-use Rattle.cf_remote.proofs.Searches.{has_get, rid_get}
 use Rattle.cf_remote.proofs.Taken.{eq_from, none_at, same_names, same_place}
 
 -- tests over entries
@@ -99,20 +98,14 @@ module _ (items : List Stored) (index : List Rid) (ordered : List Stored) (is : 
     names = names_apart told ascends;
   })
 
-  pub child_at : (name : List ℕ) (i : ℕ) (d : Rid) → IsAt rid name ordered i → option_map entry_told (stored_at items (get_or index i d)) ≡ named name listed
-  child_at name i d at =
-      let some : Stored = record { rid = d; parent = rid; name = name; directory = false; live = false; versions = []; least = 0; changed = 0 } in
-      let s : Stored = get_or ordered i some in
-      let has : Has ordered s = has_get ordered i some at.in_range in
-      let is_rid : get_or index i d ≡ s.rid = ap (λ (rs : List Rid). get_or rs i d) is.rids ∙ rid_get ordered i some d at.in_range in
-      let place = and_parts (s.parent.0 == rid.0) (same s.name name) (sym (same_place rid name s) ∙ ap is_eq (at.at some)) in
-      let found : named name told ≡ Some (entry_told s) = named_one name told ascends (entry_told s) (told_has (children rid ordered) s (has_filter (λ x. x.parent.0 == rid.0) ordered s has place.0)) place.1 in
-      ap (λ (r : Rid). option_map entry_told (stored_at items r)) is_rid
-      ∙ ap (option_map entry_told) (stored_has 1 items is.counted s (is.order.stands s has).0)
-      ∙ sym found
+  child_at : (name : List ℕ) (i : ℕ) (s : Stored) → IsAt rid name ordered i → ((d : Stored) → get_or ordered i d ≡ s) → Some (entry_told s) ≡ named name listed
+  child_at name i s at it =
+      let has : Has ordered s = subst (Has ordered) (it s) (has_get ordered i s at.in_range) in
+      let place = and_parts (s.parent.0 == rid.0) (same s.name name) (sym (same_place rid name s) ∙ ap is_eq (ap (against rid name) (sym (it s)) ∙ at.at s)) in
+      sym (named_one name told ascends (entry_told s) (told_has (children rid ordered) s (has_filter (λ x. x.parent.0 == rid.0) ordered s has place.0)) place.1)
       ∙ ap (named name) told_is
 
-  pub child_gap : (name : List ℕ) (i : ℕ) → IsGap rid name ordered i → None ≡ named name listed
+  child_gap : (name : List ℕ) (i : ℕ) → IsGap rid name ordered i → None ≡ named name listed
   child_gap name i gap = sym (named_none name told (λ e h. false_from_ne_true (same e.name name) (there e h))) ∙ ap (named name) told_is where
     there : (e : Entry) → In told e → same e.name name ≡ true → ⊥
     there e h k =
@@ -120,3 +113,7 @@ module _ (items : List Stored) (index : List Rid) (ordered : List Stored) (is : 
         let c = child_has s.0 s.1 in
         none_at rid name ordered i s.0 gap c.0
         (eq_from (against rid name s.0) (same_place rid name s.0 ∙ and_from (s.0.parent.0 == rid.0) (same s.0.name name) c.1 (ap (λ (x : Entry). same x.name name) (sym s.2) ∙ k)))
+
+  pub child_found : (name : List ℕ) (o : Option Stored) → IsFound rid name ordered o → option_map entry_told o ≡ named name listed
+  child_found name None f = child_gap name f.0 f.1
+  child_found name (Some s) f = child_at name f.0 s f.1 f.2

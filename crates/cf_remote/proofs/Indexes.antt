@@ -92,13 +92,3 @@ module _ (items : List Stored) (index : List Rid) (ordered : List Stored) (is : 
             rids = (λ i. insert (e i) place ((sym (rids s ∙ same_rid)) i)) ∙ inserted (f s) (without rid ordered) place here.in_range here.before here.after;
           };
         }
-
--- what a search for a free place told of what was handed to it
-abbrev pub TellsGap : List Stored → List Rid → Rid → List ℕ → ℕ → Type 0
-TellsGap items index parent name place = (ordered : List Stored) → IsPart items index ordered → IsFree parent name ordered → IsGap parent name ordered place
-
-pub gap_told : (items seen : List Stored) (index shown : List Rid) (parent p : Rid) (name n : List ℕ) (place : ℕ) → seen ≡ items → shown ≡ index → p ≡ parent → n ≡ name
-    → TellsGap seen shown p n place → TellsGap items index parent name place
-gap_told items seen index shown parent p name n place a b c e h =
-    subst (λ (y : List ℕ). TellsGap items index parent y place) e (subst (λ (x : Rid). TellsGap items index x n place) c
-    (subst (λ (rs : List Rid). TellsGap items rs p n place) b (subst (λ (ss : List Stored). TellsGap ss shown p n place) a h)))

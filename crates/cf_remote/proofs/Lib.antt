@@ -4,8 +4,10 @@ pub mod Children
 pub mod Counted
 pub mod Directories
 pub mod Doing
+pub mod Entering
 pub mod FoundEntries
 pub mod Indexes
+pub mod Insides
 pub mod Levels
 pub mod Lines
 pub mod ListableItems
@@ -16,12 +18,12 @@ pub mod PeerAnswers
 pub mod PeerParts
 pub mod PeerPlans
 pub mod PeerWalks
+pub mod Places
 pub mod Placing
 pub mod Quotas
 pub mod RunLaws
-pub mod Searches
 pub mod ShelfChanges
-pub mod Starts
+pub mod Splits
 pub mod StoreFinds
 pub mod Taken
 pub mod TokenPlaces

@@ -16,9 +16,8 @@ use Rattle.cf_model.specs.Growth.{CountsFrom}
 use Rattle.cf_model.specs.Store.{Stored, entry_told}
 use Rattle.cf_model.specs.Words.{comes_before, put_in, sorted}
 use Rattle.cf_remote.specs.Order.{Has, IsIndex, IsOrder, Rises, children, comes, rids_of, told_at}
-use Rattle.cf_remote.proofs.Members.{all_has, any_from, any_none, filter_has, from_low, has_filter}
+use Rattle.cf_remote.proofs.Members.{all_has, any_from, any_none, filter_has, from_low, has_filter, stored_has}
 use Rattle.cf_remote.proofs.Placing.{comes_total, filter_rises}
-use Rattle.cf_remote.proofs.Starts.{entries_are}
 
 -- names in order
 
@@ -234,6 +233,13 @@ module _ (items ordered : List Stored) (counted : CountsFrom 1 items) (is : IsOr
       (sorted_ascends (map entry_told (filter is_child items)) (told_apart is_child 1 items counted one_rid))
       (λ e h. sorted_has e (map entry_told (filter is_child items)) (there e h))
       (λ e h. back e (in_sorted e (map entry_told (filter is_child items)) h))
+
+-- what is told of items by their rids
+entries_are : (items : List Stored) → CountsFrom 1 items → (some : List Stored) → ((s : Stored) → Has some s → Has items s)
+    → filter_map (told_at items) (rids_of some) ≡ map entry_told some
+entries_are items counted [] h = refl
+entries_are items counted (s ∷ ss) h =
+    rw (stored_has 1 items counted s (h s (inl refl))) (ap (λ (es : List Entry). entry_told s ∷ es) (entries_are items counted ss (λ t k. h t (inr k))))
 
 pub listing_told : (items : List Stored) (index : List Rid) (ordered : List Stored) (rid : Rid) (rids : List Rid) → IsIndex items index ordered → rids ≡ rids_of (children rid ordered)
     → filter_map (told_at items) rids ≡ sorted (λ e f. comes_before e.name f.name) (map entry_told (filter (λ s. s.live && (s.parent.0 == rid.0)) items))

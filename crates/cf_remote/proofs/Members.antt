@@ -1,5 +1,5 @@
 -- What lists of items have, and what holds of each.
-use Rattle.std.proofs.Common.{◌≡◌, ◌⊎◌, inl, inr, ℕ, ◌+◌, Bool, true, false, cond, List, [], ◌∷◌, ◌++◌, map, refl, sym, ap, ◌∙◌, subst, arith, ◌==◌, ◌||◌, ◌≤◌}
+use Rattle.std.proofs.Common.{◌≡◌, ◌⊎◌, inl, inr, ℕ, zero, suc, ◌+◌, ◌<◌, Bool, true, false, cond, List, [], ◌∷◌, ◌++◌, length, map, get_or, refl, sym, ap, ◌∙◌, subst, arith, ◌==◌, ◌||◌, ◌≤◌}
 use Rattle.std.specs.Prelude.{Some, filter}
 use Rattle.std.specs.List.{AllByRecursion, list_any}
 use Rattle.std.proofs.lemmas.Bool.{eq-eqb, ne_eqb, eqb-true}
@@ -57,6 +57,12 @@ more_has [] t s (inl e) = inr e
 more_has [] t s (inr k) = absurd k
 more_has (r ∷ rs) t s (inl e) = inl (inl e)
 more_has (r ∷ rs) t s (inr k) = elim (more_has rs t s k) [ inl h ↦ inl (inr h) | inr e ↦ inr e ]
+
+-- items by place
+pub has_get : (ss : List Stored) (k : ℕ) (d : Stored) → k < length ss → Has ss (get_or ss k d)
+has_get [] k d lt = absurd (omega arith)
+has_get (s ∷ ss) zero d lt = inl refl
+has_get (s ∷ ss) (suc k) d lt = inr (has_get ss k d (omega arith))
 
 -- tests over a list
 

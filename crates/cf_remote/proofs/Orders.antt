@@ -8,13 +8,12 @@ use Rattle.std.proofs.lemmas.Bool.{eq-eqb, eqb-true, ne_eqb, not-true}
 use Rattle.std.proofs.lemmas.Cmp.{tied_itself}
 use Rattle.cf_base.specs.declared.ids.Rid.{Rid}
 use Rattle.cf_model.specs.Growth.{CountsFrom}
-use Rattle.cf_model.specs.Store.{Stored, at_rid, stored_at}
-use Rattle.cf_remote.specs.Order.{Has, IsAt, IsFree, IsGap, IsIndex, IsOrder, IsPart, against, comes, placed, rids_of, without}
-use Rattle.cf_remote.proofs.Members.{all_from, all_has, filter_has, has_filter, has_last, has_map, has_more, has_stored, map_has, more_has, same_item}
+use Rattle.cf_model.specs.Store.{Stored, at_rid}
+use Rattle.cf_remote.specs.Order.{Has, IsAt, IsFree, IsIndex, IsOrder, IsPart, comes, placed, rids_of, without}
+use Rattle.cf_remote.proofs.Members.{all_from, all_has, filter_has, has_filter, has_get, has_last, has_map, has_more, map_has, more_has, same_item}
 use Rattle.cf_remote.proofs.Placing.{KeepsPlace, comes_total, filter_rises, has_new, has_placed, map_rises, placed_has, placed_rises}
 use Rattle.cf_model.specs.Words.{says}
-use Rattle.cf_remote.proofs.Searches.{has_get, part_of}
-use Rattle.cf_remote.proofs.Taken.{none_at, only_at}
+use Rattle.cf_remote.proofs.Taken.{only_at}
 
 -- a change of one item
 
@@ -183,31 +182,6 @@ left_at items index ordered s i is h live at =
 pub live_from : (o : Option Stored) (s : Stored) → Some s ≡ o → says (λ x. x.live) o ≡ true → s.live ≡ true
 live_from None s e h = cc
 live_from (Some t) s e h = let i : s ≡ t = cc in ap (λ (x : Stored). x.live) i ∙ h
-
--- what a search for a live item finds, its place being told by these values
-module _ (items : List Stored) (index : List Rid) (ordered : List Stored) (rid : Rid) (s : Stored) (parent : Rid) (name : List ℕ) (seen : List Rid)
-    (is : IsIndex items index ordered) (there : Some s ≡ stored_at items rid) (live : says (λ x. x.live) (stored_at items rid) ≡ true)
-    (in' : parent ≡ s.parent) (named : name ≡ s.name) (same : seen ≡ index) where
-  part : IsPart items seen ordered
-  part = subst (λ (rs : List Rid). IsPart items rs ordered) (sym same) (part_of items index ordered is)
-
-  alive : s.live ≡ true
-  alive = live_from (stored_at items rid) s there live
-
-  has : Has items s
-  has = (has_stored items rid s (sym there)).0
-
-  place_is : against parent name s ≡ Equal
-  place_is = ap (λ (p : Rid). against p name s) in' ∙ ap (λ (n : List ℕ). against s.parent n s) named ∙ tied_itself comes_total s
-
-  pub found_gap : (i : ℕ) → ((o : List Stored) → IsPart items seen o → IsGap parent name o i) → ⊥
-  found_gap i gap = none_at parent name ordered i s (gap ordered part) (is.order.complete s has alive) place_is
-
-  pub found_left : (i : ℕ) → ((o : List Stored) → IsPart items seen o → IsAt parent name o i) → remove index i ≡ rids_of (without rid ordered)
-  found_left i at =
-      let here : IsAt s.parent s.name ordered i = subst (λ (n : List ℕ). IsAt s.parent n ordered i) named (subst (λ (p : Rid). IsAt p name ordered i) in' (at ordered part)) in
-      left_at items index ordered s i is has alive here
-      ∙ ap (λ (n : ℕ). rids_of (without (record { 0 = n }) ordered)) (has_stored items rid s (sym there)).1
 
 pub free_gap : (parent : Rid) (name : List ℕ) (ordered : List Stored) (i : ℕ) → IsFree parent name ordered → IsAt parent name ordered i → ⊥
 free_gap parent name [] i free at = absurd (omega (arith, at.in_range))

@@ -1,6 +1,6 @@
 -- A change of the items leaves them well kept.
 use Rattle.std.proofs.Common.{◌≡◌, ℕ, ◌+◌, ◌-◌, ◌≤◌, Bool, true, false, cond, List, [], ◌∷◌, ◌++◌, map, refl, sym, ap, ◌∙◌, subst, arith, ◌==◌}
-use Rattle.std.specs.Prelude.{Option, Some, None, count_by, sum_by}
+use Rattle.std.specs.Prelude.{Option, Some, None, Result, Ok, Err, OnErr, OnOk, count_by, sum_by}
 use Rattle.std.proofs.lemmas.List.Sums.{sum_by_push}
 use Rattle.cf_base.specs.declared.ids.Rid.{Rid}
 use Rattle.cf_model.specs.Growth.{CountsFrom}
@@ -62,7 +62,7 @@ module _ (items : List Stored) (index : List Rid) (live held : ℕ) (is : IsShel
         directories = subst StandInDirectories (sym e) (directories_at items rid (λ s. record s { live = false; changed = changed }) (λ s. refl) (λ s. refl) is.directories (λ s h. h));
       }
 
-  pub shelf_placed : (left : List Rid) (parent : Rid) (name : List ℕ) (changed : ℕ) → new ≡ at_rid rid (λ s. record s { parent = parent; name = name; changed = changed }) items
+  shelf_placed : (left : List Rid) (parent : Rid) (name : List ℕ) (changed : ℕ) → new ≡ at_rid rid (λ s. record s { parent = parent; name = name; changed = changed }) items
       → IsIndexed new left → says (λ s. s.directory) (stored_at items parent) ≡ true → IsShelf new left live held
   shelf_placed left parent name changed e indexed inside = record {
     indexed = indexed;
@@ -70,6 +70,19 @@ module _ (items : List Stored) (index : List Rid) (live held : ℕ) (is : IsShel
     holds = is.holds ∙ sym (ap (sum_by held_len) e ∙ sum_kept held_len rid (λ s. record s { parent = parent; name = name; changed = changed }) (λ s. refl) items);
     within = is.within;
     directories = subst StandInDirectories (sym e) (directories_at items rid (λ s. record s { parent = parent; name = name; changed = changed }) (λ s. refl) (λ s. refl) is.directories (λ s h. inside));
+  }
+
+  -- it is placed, or nothing changed
+  pub shelf_moved : {E : Type 0} (r : Result (Unit {0}) E) (left : List Rid) (parent : Rid) (name : List ℕ) (changed : ℕ)
+      → OnOk r (new ≡ at_rid rid (λ s. record s { parent = parent; name = name; changed = changed }) items) → OnErr r (new ≡ items)
+      → IsIndexed new left → says (λ s. s.directory) (stored_at items parent) ≡ true → IsShelf new left live held
+  shelf_moved (Ok x) left parent name changed ok err indexed inside = shelf_placed left parent name changed ok indexed inside
+  shelf_moved (Err e) left parent name changed ok err indexed inside = record {
+    indexed = indexed;
+    lives = is.lives ∙ sym (ap (count_by (λ (s : Stored). s.live)) err);
+    holds = is.holds ∙ sym (ap (sum_by held_len) err);
+    within = is.within;
+    directories = subst StandInDirectories (sym err) is.directories;
   }
 
   pub shelf_grown : (keep : Option ℕ) (bytes : List ℕ) (changed after : ℕ) → new ≡ at_rid rid (grown keep bytes changed) items → after ≡ sum_by held_len (at_rid rid (grown keep bytes changed) items)

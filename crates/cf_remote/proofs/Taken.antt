@@ -1,5 +1,6 @@
 -- Whether a name is taken, by what a search finds.
 use Rattle.std.proofs.Common.{◌≡◌, ◌⊎◌, inl, inr, ℕ, zero, suc, Bool, true, false, not, List, [], ◌∷◌, take, drop, get_or, refl, sym, ap, ◌∙◌, arith, ◌==◌, ◌&&◌}
+use Rattle.std.specs.Prelude.{Option, Some, None}
 use Rattle.std.specs.List.{list_any}
 use Rattle.std.specs.Cmp.Lexicographic.{slice_cmp}
 use Rattle.std.specs.declared.cmp.Ordering.{Ordering}
@@ -10,9 +11,8 @@ use Rattle.std.proofs.lemmas.Bool.Decides.{nat_tests}
 use Rattle.cf_base.specs.declared.ids.Rid.{Rid}
 use Rattle.cf_model.specs.Store.{Stored}
 use Rattle.cf_model.specs.Words.{same}
-use Rattle.cf_remote.specs.Order.{Has, IsAt, IsGap, IsIndex, against}
-use Rattle.cf_remote.proofs.Members.{all_has, any_from, any_none}
-use Rattle.cf_remote.proofs.Searches.{has_get, rid_get}
+use Rattle.cf_remote.specs.Order.{Has, IsAt, IsFound, IsGap, IsIndex, against}
+use Rattle.cf_remote.proofs.Members.{all_has, any_from, any_none, has_get}
 
 both_same : (x y : ℕ) (o : Ordering) (b : Bool) → is_eq o ≡ b → is_eq (ordering_then (nat_cmp x y) o) ≡ ((x == y) && b)
 both_same x y o b h = grind (arith, nat_tests)
@@ -87,16 +87,14 @@ module _ (parent : Rid) (name : List ℕ) (but : Rid) where
   whole false b c e h k l = cc
 
   module _ (items : List Stored) (index : List Rid) (ordered : List Stored) (is : IsIndex items index ordered) (i : ℕ) where
-    pub taken_at : (d : Rid) → IsAt parent name ordered i → list_any takes items ≡ not ((get_or index i d).0 == but.0)
-    taken_at d at =
-        let some : Stored = record { rid = d; parent = parent; name = name; directory = false; live = false; versions = []; least = 0; changed = 0 } in
-        let s : Stored = get_or ordered i some in
-        let there = is.order.stands s (has_get ordered i some at.in_range) in
-        let rid : get_or index i d ≡ s.rid = ap (λ (rs : List Rid). get_or rs i d) is.rids ∙ rid_get ordered i some d at.in_range in
-        let place : ((s.parent.0 == parent.0) && same s.name name) ≡ true = sym (same_place parent name s) ∙ ap is_eq (at.at some) in
+    taken_at : (t : Stored) → IsAt parent name ordered i → ((d : Stored) → get_or ordered i d ≡ t) → list_any takes items ≡ not (t.rid.0 == but.0)
+    taken_at t at it =
+        let s : Stored = get_or ordered i t in
+        let there = is.order.stands s (has_get ordered i t at.in_range) in
+        let place : ((s.parent.0 == parent.0) && same s.name name) ≡ true = sym (same_place parent name s) ∙ ap is_eq (at.at t) in
         let only : (t : Stored) → Has items t → t.live ≡ true → ((t.parent.0 == parent.0) && same t.name name) ≡ true → t ≡ s =
-        λ t h live p. only_at parent name ordered i some t at (is.order.complete t h live) (eq_from (against parent name t) (same_place parent name t ∙ p)) in
-        one s there.0 there.1 place only (not (s.rid.0 == but.0)) refl ∙ ap (λ (r : Rid). not (r.0 == but.0)) (sym rid) where
+        λ u h live p. only_at parent name ordered i t u at (is.order.complete u h live) (eq_from (against parent name u) (same_place parent name u ∙ p)) in
+        one s there.0 there.1 place only (not (s.rid.0 == but.0)) refl ∙ ap (λ (x : Stored). not (x.rid.0 == but.0)) (it t) where
           one : (s : Stored) → Has items s → s.live ≡ true → ((s.parent.0 == parent.0) && same s.name name) ≡ true
               → ((t : Stored) → Has items t → t.live ≡ true → ((t.parent.0 == parent.0) && same t.name name) ≡ true → t ≡ s) → (b : Bool) → not (s.rid.0 == but.0) ≡ b → list_any takes items ≡ b
           one s h live place only true e = any_from takes items s h (whole s.live (s.parent.0 == parent.0) (same s.name name) (not (s.rid.0 == but.0)) live place e)
@@ -105,7 +103,13 @@ module _ (parent : Rid) (name : List ℕ) (but : Rid) where
               let same_rid : not (t.rid.0 == but.0) ≡ not (s.rid.0 == but.0) = ap (λ (x : Stored). not (x.rid.0 == but.0)) (only t k p.0 p.1) in
               true≢false (sym p.2 ∙ same_rid ∙ e)))
 
-    pub taken_gap : IsGap parent name ordered i → list_any takes items ≡ false
+    taken_gap : IsGap parent name ordered i → list_any takes items ≡ false
     taken_gap gap = any_none takes items (λ s h. false_from_ne_true (takes s) (λ t.
         let p = parts s.live (s.parent.0 == parent.0) (same s.name name) (not (s.rid.0 == but.0)) t in
         none_at parent name ordered i s gap (is.order.complete s h p.0) (eq_from (against parent name s) (same_place parent name s ∙ p.1))))
+
+  -- by the item that was found
+  pub taken_found : (items : List Stored) (index : List Rid) (ordered : List Stored) → IsIndex items index ordered → (o : Option Stored) → IsFound parent name ordered o
+      → list_any takes items ≡ elim o as (λ _. Bool) [ Some s ↦ not (s.rid.0 == but.0) | None ↦ false ]
+  taken_found items index ordered is None f = taken_gap items index ordered is f.0 f.1
+  taken_found items index ordered is (Some s) f = taken_at items index ordered is f.0 s f.1 f.2

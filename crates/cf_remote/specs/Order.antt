@@ -1,10 +1,11 @@
 -- The live items in order of parent and name, and how the store keeps its items.
-use Rattle.std.specs.Prelude.{◌≡◌, ◌⊎◌, ℕ, false, not, cond, List, [], ◌∷◌, map, filter, ◌==◌, ◌≤◌, ◌<◌, Option, Some, None, option_map, Result, Ok, Err, count_by, sum_by, length, get_or, take, drop, suc, true}
+use Rattle.std.specs.Prelude.{◌≡◌, ◌⊎◌, ℕ, Bool, false, not, cond, List, [], ◌∷◌, ◌++◌, map, filter, ◌==◌, ◌≤◌, ◌<◌, Option, Some, None, option_map, count_by, sum_by, length, get_or, take, drop, suc, true}
 use Rattle.std.specs.Cmp.Lexicographic.{slice_cmp}
 use Rattle.std.specs.List.{AllByRecursion}
 use Rattle.std.specs.declared.cmp.Ordering.{Ordering}
 use Rattle.std.specs.declared.cmp.Ordering.TheVariants.{Less, Equal, Greater}
 use Rattle.std.specs.Ordering.{is_lt, nat_cmp, ordering_then}
+use Rattle.cf_collections.specs.Split.{behind, front, rest}
 use Rattle.cf_base.specs.declared.ids.Rid.{Rid}
 use Rattle.cf_model.specs.Growth.{CountsFrom}
 use Rattle.cf_base.specs.declared.messages.Entry.{Entry}
@@ -19,10 +20,32 @@ against parent name s = ordering_then (nat_cmp s.parent.0 parent.0) (slice_cmp n
 abbrev pub comes : Stored → Stored → Ordering
 comes s t = against t.parent t.name s
 
--- the same of an item that may be there
-abbrev pub order_of : Rid → List ℕ → Option Stored → Ordering
-order_of parent name None = Less
-order_of parent name (Some s) = against parent name s
+-- A place in the index: that of a parent and a name. The index may hold a rid that no item has, where a place is kept for one;
+-- `kept_before` says whether it comes before this one.
+pub record PlaceIn : Type 0 where
+  pub items : List Stored
+  pub parent : Rid
+  pub name : List ℕ
+  pub kept_before : Bool
+
+-- whether an item that may be there comes before a place
+abbrev pub comes_first : Rid → List ℕ → Bool → Option Stored → Bool
+comes_first parent name kept None = kept
+comes_first parent name kept (Some s) = is_lt (against parent name s)
+
+abbrev pub is_before : PlaceIn → Rid → Bool
+is_before p rid = comes_first p.parent p.name p.kept_before (stored_at p.items rid)
+
+-- the place of a parent and a name, before which no other is kept
+abbrev pub place : List Stored → Rid → List ℕ → PlaceIn
+place items parent name = record { items = items; parent = parent; name = name; kept_before = false }
+
+-- rids with one more at a place, and without the first one that does not come before it
+abbrev pub put_at : PlaceIn → Rid → List Rid → List Rid
+put_at p rid rids = front (is_before p) rids ++ rid ∷ behind (is_before p) rids
+
+abbrev pub gone_at : PlaceIn → List Rid → List Rid
+gone_at p rids = front (is_before p) rids ++ rest (behind (is_before p) rids)
 
 -- each item comes before those after it
 abbrev pub Rises : List Stored → Type 0
@@ -76,20 +99,18 @@ pub record IsGap (parent : Rid) (name : List ℕ) (ordered : List Stored) (i : �
   pub before : AllByRecursion (λ s. against parent name s ≡ Less) (take i ordered)
   pub after : AllByRecursion (λ s. against parent name s ≡ Greater) (drop i ordered)
 
--- where the item of a place is, or where it would be
-abbrev pub Finds : Rid → List ℕ → List Stored → Result ℕ ℕ → Type 0
-Finds parent name ordered (Ok i) = IsAt parent name ordered i
-Finds parent name ordered (Err i) = IsGap parent name ordered i
+-- the item of a place, or none
+abbrev pub IsFound : Rid → List ℕ → List Stored → Option Stored → Type 0
+IsFound parent name ordered None = (i : ℕ) × IsGap parent name ordered i
+IsFound parent name ordered (Some s) = (i : ℕ) × IsAt parent name ordered i × ((d : Stored) → get_or ordered i d ≡ s)
 
 pub record IsIndexed (items : List Stored) (index : List Rid) : Type 0 where
   pub ordered : List Stored
   pub is : IsIndex items index ordered
 
--- the items from i on are those whose parent is this one or a later one
-pub record IsStart (parent : Rid) (ordered : List Stored) (i : ℕ) : Type 0 where
-  pub in_range : i ≤ length ordered
-  pub before : AllByRecursion (λ s. s.parent.0 < parent.0) (take i ordered)
-  pub after : AllByRecursion (λ s. parent.0 ≤ s.parent.0) (drop i ordered)
+-- whether the item of a rid is in a directory
+abbrev pub is_inside : List Stored → Rid → Rid → Bool
+is_inside items directory rid = says (λ s. s.parent.0 == directory.0) (stored_at items rid)
 
 abbrev pub children : Rid → List Stored → List Stored
 children rid ordered = filter (λ s. s.parent.0 == rid.0) ordered

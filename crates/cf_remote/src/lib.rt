@@ -3,8 +3,8 @@
 //! A `Remote` does requests, and finds one name in a directory, which is one request too. What it tells of itself (what it
 //! holds, how often it was asked, which asks fail, how often it failed) is optional: a clause says nothing of what is not
 //! told. `StoreRemote` holds everything in memory, and each ask of it is `remote_step` of the definitions; `FlakyRemote` is
-//! one of which listed asks fail. Items stand in order of rid, beside an index by parent and name, and tokens beside an index
-//! of their own, so that no look-up walks the whole store. `peer` does what another device does, with any remote.
+//! one of which listed asks fail. Items stand in order of rid, beside an index by parent and name in chunks, and tokens beside an
+//! index of their own, so that no look-up walks the whole store, and no change moves all names. `peer` does what another device does, with any remote.
 #![tactic(auto)]
 
 mod ask_errors;

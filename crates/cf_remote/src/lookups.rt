@@ -1,14 +1,15 @@
-//! Items by rid, and by parent and name.
+//! Items by rid, and places in the index by parent and name.
 
-ghost use Rattle.std.specs.Prelude.{◌≡◌, ◌≤◌, List, IfSome, length, option_copied};
-ghost use Rattle.std.specs.List.Sorted.{IsSearchInRange};
+ghost use Rattle.std.specs.Prelude.{◌≡◌, ◌≤◌, IfSome, length, option_copied};
 ghost use Rattle.cf_model.specs.Growth.{CountsFrom};
-ghost use Rattle.cf_model.specs.Store.{Stored, stored_at};
-ghost use Rattle.cf_remote.specs.Order.{Finds, IsPart, order_of};
+ghost use Rattle.cf_model.specs.Store.{stored_at};
+ghost use Rattle.cf_remote.specs.Order.{against, is_before};
 
 use crate::stored::StoredItem;
 use cf_base::Rid;
+use cf_collections::{Order, Probe};
 use std::cmp::Ordering;
+use std::marker::Model;
 
 /// The item with the rid. Rids are given in order from 1, so it stands at its place.
 #[tactic(auto, using(crate::proofs::Counted::get_is, crate::proofs::Counted::none_is))]
@@ -24,27 +25,74 @@ pub(crate) fn find(items: &[StoredItem], rid: Rid) -> Option<&StoredItem>
     Some(&items[count - 1])
 }
 
-/// How the item with the rid compares to a place.
-fn order(items: &[StoredItem], rid: Rid, parent: Rid, name: &[u8]) -> Ordering
-    requires { CountsFrom 1 items.now }
-    ensures { result ≡ order_of parent name.now (stored_at items.now rid) }
+/// How an item compares to a place: by parent, then by name.
+pub(crate) fn compared(item: &StoredItem, parent: Rid, name: &[u8]) -> Ordering
+    ensures { result ≡ against parent name.now item.now }
 {
-    match find(items, rid) {
-        None => Ordering::Less,
-        Some(item) => item.parent().0.cmp(&parent.0).then(item.name().cmp(name)),
+    item.parent().0.cmp(&parent.0).then(item.name().cmp(name))
+}
+
+/// A place in the index: that of a parent and a name. The index may hold a rid that no item has, where a place is kept for one.
+#[derive(Drop)]
+pub(crate) struct Place<'a> {
+    items: &'a [StoredItem],
+    parent: Rid,
+    name: &'a [u8],
+    // Whether a place that is kept comes before this one.
+    kept_before: bool,
+}
+
+impl<'a> Model for Place<'a> {
+    ghost use Rattle.cf_model.specs.Growth.{CountsFrom};
+    ghost use Rattle.cf_remote.specs.Order.{PlaceIn};
+
+    ghost Value = { PlaceIn };
+
+    ghost view = { λ p. record { items = p.items.now; parent = p.parent; name = p.name.now; kept_before = p.kept_before } };
+
+    ghost invariant = { λ p. CountsFrom 1 p.items.now };
+}
+
+impl<'a> Place<'a> {
+    pub(crate) fn of(
+        items: &'a [StoredItem],
+        parent: Rid,
+        name: &'a [u8],
+        kept_before: bool,
+    ) -> Place<'a>
+        requires { CountsFrom 1 items.now }
+        ensures { result ≡ record { items = items.now; parent = parent; name = name.now; kept_before = kept_before } }
+    {
+        Place {
+            items,
+            parent,
+            name,
+            kept_before,
+        }
+    }
+
+    fn comes_after(&self, rid: Rid) -> bool
+        ensures { result ≡ is_before self.now rid }
+    {
+        match find(self.items, rid) {
+            None => self.kept_before,
+            Some(item) => compared(item, self.parent, self.name).is_lt(),
+        }
     }
 }
 
-/// Where the live item of a place is in the index, or where it would be.
-pub(crate) fn search(
-    items: &[StoredItem],
-    by_name: &[Rid],
-    parent: Rid,
-    name: &[u8],
-) -> Result<usize, usize>
-    requires { CountsFrom 1 items.now }
-    ensures bound { IsSearchInRange result (length by_name.now) }
-    ensures finds { (ordered : List Stored) → IsPart items.now by_name.now ordered → Finds parent name.now ordered result }
-{
-    by_name.binary_search_by(|rid| order(items, *rid, parent, name))
+impl Probe<Rid> for Place<'_> {
+    ghost is_behind = { λ place rid. is_before place rid };
+
+    fn is_behind(&self, rid: &Rid) -> bool {
+        self.comes_after(*rid)
+    }
+}
+
+impl Order<Rid> for Place<'_> {
+    ghost is_behind = { λ place rid other. is_before place other };
+
+    fn is_behind(&self, _rid: &Rid, other: &Rid) -> bool {
+        self.comes_after(*other)
+    }
 }

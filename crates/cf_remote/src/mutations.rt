@@ -178,8 +178,8 @@ impl Store {
     {
         let clock = clock_after(self.clock, &self.tokens);
         let version = latest_of(&self.shelf, rid);
-        self.tokens.record(token, Outcome::Done { rid, version })?;
-        self.shelf.place(rid, parent, name, clock);
+        self.shelf
+            .place(rid, parent, name, clock, &mut self.tokens, token)?;
         self.clock = clock;
         Ok(Reply::Done {
             token,

@@ -19,6 +19,7 @@ use crate::lookups::find;
 use crate::stored::StoredItem;
 use crate::tokens::Tokens;
 use cf_base::{Blob, Entry, OutOfMemory, Rid, Sequence, Token, Version};
+use cf_collections::ChunkedList;
 use std::alloc::Global;
 use std::marker::Model;
 
@@ -27,7 +28,7 @@ use std::marker::Model;
 #[derive(Drop)]
 pub(crate) struct Shelf {
     items: Vec<StoredItem>,
-    by_name: Vec<Rid>,
+    by_name: ChunkedList<Rid>,
     live: u64,
     held: u64,
     alloc: Global,
@@ -42,7 +43,7 @@ impl Model for Shelf {
 
     ghost view = { λ s. s.items.items };
 
-    ghost invariant = { λ s. IsShelf s.items.items s.by_name.items s.live s.held };
+    ghost invariant = { λ s. IsShelf s.items.items s.by_name s.live s.held };
 }
 
 impl Shelf {
@@ -95,7 +96,6 @@ impl Shelf {
 
     /// A live item has this parent.
     pub(crate) fn has_child(&self, rid: Rid) -> bool
-        requires { rid.0 + 1 < 2 ^ 64 }
         ensures { result ≡ list_any (λ s. s.live && (s.parent.0 == rid.0)) self.now }
     {
         has_child(&self.items, &self.by_name, rid)
@@ -103,7 +103,6 @@ impl Shelf {
 
     /// What is told of the live children of a directory, by name.
     pub(crate) fn listing(&self, rid: Rid) -> Result<Sequence<Entry>, OutOfMemory>
-        requires { rid.0 + 1 < 2 ^ 64 }
         ensures room { IfOk result (λ es. All (λ e. length e.name ≤ 255) es) }
         ensures told { IfOk result (λ es. es ≡ sorted (λ e f. comes_before e.name f.name) (map entry_told (filter (λ s. s.live && (s.parent.0 == rid.0)) self.now))) }
     {
@@ -187,13 +186,25 @@ impl Shelf {
         Ok(())
     }
 
-    /// Puts a live item at another place, which no other has.
-    pub(crate) fn place(&mut self, rid: Rid, parent: Rid, name: Blob, changed: u64)
+    /// Puts a live item at another place, which no other has, and records the token. Without memory nothing changes.
+    pub(crate) fn place(
+        &mut self,
+        rid: Rid,
+        parent: Rid,
+        name: Blob,
+        changed: u64,
+        tokens: &mut Tokens,
+        token: Token,
+    ) -> Result<(), OutOfMemory>
         requires live { says (λ s. s.live) (stored_at self.old rid) ≡ true }
         requires name { length name ≤ 255 }
         requires inside { says (λ s. s.directory) (stored_at self.old parent) ≡ true }
         requires free { list_any (λ s. s.live && (s.parent.0 == parent.0) && same s.name name && not (s.rid.0 == rid.0)) self.old ≡ false }
-        ensures { self.new ≡ at_rid rid (λ s. record s { parent = parent; name = name; changed = changed }) self.old }
+        requires new { recorded_at tokens.old token ≡ None }
+        ensures ok { OnOk result (self.new ≡ at_rid rid (λ s. record s { parent = parent; name = name; changed = changed }) self.old) }
+        ensures recorded { OnOk result (tokens.new ≡ (token, RecordedDone rid (record { 0 = part latest 0 (stored_at self.old rid) })) ∷ tokens.old) }
+        ensures err { OnErr result (self.new ≡ self.old) }
+        ensures unrecorded { OnErr result (tokens.new ≡ tokens.old) }
     {
         move_item(
             &mut self.items,
@@ -202,7 +213,9 @@ impl Shelf {
             parent,
             name,
             changed,
-        );
+            tokens,
+            token,
+        )
     }
 
     /// A live item is no longer live.
@@ -258,8 +271,9 @@ pub(crate) fn first_shelf(alloc: Global) -> Result<Shelf, OutOfMemory>
     let root = StoredItem::directory(alloc, Rid(1), Rid(0), name, 0);
     let mut items = Vec::new(alloc);
     items.push(root)?;
-    let mut by_name = Vec::new(alloc);
-    by_name.push(Rid(1))?;
+    let mut rids = Vec::new(alloc);
+    rids.push(Rid(1))?;
+    let by_name = ChunkedList::from_vec(alloc, rids)?;
     Ok(Shelf {
         items,
         by_name,

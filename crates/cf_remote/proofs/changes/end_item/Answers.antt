@@ -21,8 +21,8 @@ returns-clause-ends c =
     ∙ at_is c.args.items.now.items c.args.rid (ended c.args.changed) c.index_mut-item.result.now c.requires.index.is.counted h.0 h.1
 
 pub returns-clause-index : goal.returns-clause-index
-returns-clause-index c = subst (λ (ss : List Stored). IsIndexed ss c.leave.new.by_name.items) (sym (returns-clause-ends c)) (record {
+returns-clause-index c = subst (λ (ss : List Stored). IsIndexed ss c.leave.new.by_name) (sym (returns-clause-ends c)) (record {
   ordered = without c.args.rid c.requires.index.ordered;
-  is = index_dead c.args.items.now.items c.args.by_name.now.items c.requires.index.ordered c.requires.index.is c.args.rid (ended c.args.changed) c.leave.new.by_name.items
-      (λ s. refl) (λ s. refl) (c.leave.ensures.left c.requires.index.ordered (subst (λ (ss : List Stored). IsIndex ss c.args.by_name.now.items c.requires.index.ordered) (sym c.deref.ensures.value) c.requires.index.is));
+  is = index_dead c.args.items.now.items c.args.by_name.now c.requires.index.ordered c.requires.index.is c.args.rid (ended c.args.changed) c.leave.new.by_name
+      (λ s. refl) (λ s. refl) (c.leave.ensures c.requires.index.ordered (subst (λ (ss : List Stored). IsIndex ss c.args.by_name.now c.requires.index.ordered) (sym c.deref.ensures.value) c.requires.index.is));
 })

@@ -1,11 +1,14 @@
-use Rattle.std.proofs.Common.{◌∙◌}
-use Rattle.cf_remote.proofs.Orders.{found_gap, found_left}
+use Rattle.std.proofs.Common.{◌∙◌, ap, false, subst, sym}
+use Rattle.cf_collections.specs.Split.{IsSplit}
+use Rattle.cf_remote.specs.Order.{PlaceIn, gone_at, is_before}
+use Rattle.cf_remote.proofs.Entering.{left_is}
+use Rattle.cf_remote.proofs.Places.{part_of, split}
 use Rattle.cf_remote.proofs.changes.leave.Goals as goal
 
-pub unreachable-requires-in-Err : goal.unreachable-requires-in-Err
-unreachable-requires-in-Err c = found_gap c.args.items.now c.args.by_name.now.items c.requires.index.ordered c.args.rid c.in-Some.item.now c.parent.result c.name.result.now c.deref.result.now
-    c.requires.index.is c.in-Some.ensures.there c.requires.live c.parent.ensures c.name.ensures c.deref.ensures.value c.in-Err.field-0 c.in-Err.ensures.finds
+pub remove-requires : goal.remove-requires
+remove-requires c = subst (λ (p : PlaceIn). IsSplit (is_before p) c.args.by_name.now) (sym c.of.ensures)
+    (split c.args.items.now c.args.by_name.now c.requires.index.ordered (part_of c.args.items.now c.args.by_name.now c.requires.index.ordered c.requires.index.is) c.parent.result c.name.result.now false)
 
-pub returns-clause-left : goal.returns-clause-left
-returns-clause-left c ordered is = c.remove.ensures.items ∙ found_left c.args.items.now c.args.by_name.now.items ordered c.args.rid c.in-Some.item.now c.parent.result c.name.result.now c.deref.result.now
-    is c.in-Some.ensures.there c.requires.live c.parent.ensures c.name.ensures c.deref.ensures.value c.in-Ok.place c.in-Ok.ensures.finds
+pub returns : goal.returns
+returns c ordered is = c.remove.ensures ∙ ap (λ (p : PlaceIn). gone_at p c.args.by_name.now) c.of.ensures
+    ∙ left_is c.args.items.now c.args.by_name.now ordered is c.args.rid c.in-Some.item.now c.parent.result c.name.result.now c.in-Some.ensures.there c.requires.live c.parent.ensures c.name.ensures

@@ -24,7 +24,7 @@ pub invariant_of-self-2 : goal.invariant_of-self-2
 invariant_of-self-2 c =
     let items = c.self.inside.items.items in
     let h = live_in items c.args.rid c.self.invariant.indexed.is.counted (rw (← c.self.view_is) at c.requires.there) in
-    shelf_grown items c.self.inside.by_name.items c.self.inside.live c.self.inside.held c.self.invariant c.args.rid (set items (c.args.rid.0 - 1) c.grow.new.self) c.args.keep c.args.bytes c.args.changed c.held_with-held.result
+    shelf_grown items c.self.inside.by_name c.self.inside.live c.self.inside.held c.self.invariant c.args.rid (set items (c.args.rid.0 - 1) c.grow.new.self) c.args.keep c.args.bytes c.args.changed c.held_with-held.result
     (ap (λ (s : Stored). set items (c.args.rid.0 - 1) s) (c.in_ok-version.ensures.ok ∙ ap (grown c.args.keep c.args.bytes c.args.changed) c.index_mut-item.ensures.value)
     ∙ at_is items c.args.rid (grown c.args.keep c.args.bytes c.args.changed) c.index_mut-item.result.now c.self.invariant.indexed.is.counted h.0 h.1)
     (rw (← c.self.view_is) at (c.held_with-held.ensures c.args.bytes c.args.changed (ap length (sym c.as_slice.ensures))))
