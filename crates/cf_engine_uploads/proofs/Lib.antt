@@ -9,4 +9,5 @@ pub mod Removed
 pub mod StoredPins
 pub mod Trees
 pub mod Turned
+mod Idle
 mod NextTurns

@@ -13,7 +13,7 @@ use Rattle.cf_model.specs.Arrows.{each}
 use Rattle.cf_model.specs.Pushes.{push_turn}
 use Rattle.cf_model.specs.Trees.{bind}
 
-nothing_is : (c : Course) → is_nothing c ≡ true → c ≡ Nothing
+pub nothing_is : (c : Course) → is_nothing c ≡ true → c ≡ Nothing
 nothing_is Nothing is = refl
 nothing_is New is = let z : false ≡ true = is in absurd cc
 nothing_is Moved is = let z : false ≡ true = is in absurd cc

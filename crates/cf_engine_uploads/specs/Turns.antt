@@ -54,6 +54,17 @@ abbrev pub IsNext : {X : Type 0} → Whole X → List ItemId → ℕ → X → O
 IsNext W ids from x None = SameTurns W ids from (length ids) x
 IsNext W ids from x (Some t) = (from ≤ t.place) × (t.place < length ids) × SameTurns W ids from t.place x × ((d : ItemId) → PlansTurn W (get_or ids t.place d) x t.course)
 
+-- where it is so, these rows' items, and all items, have nothing to do
+abbrev pub AreIdle : {X : Type 0} → Whole X → List Row → X → Bool → Type 0
+AreIdle W rows x b = b ≡ true → (k : ℕ) (d : Row) → k < length rows → PlansTurn W (get_or rows k d).id x Nothing
+
+abbrev pub IsIdle : {X : Type 0} → Whole X → X → Bool → Type 0
+IsIdle W x b = b ≡ true → (id : ItemId) → PlansTurn W id x Nothing
+
+-- where it is so, there is no tombstone either
+abbrev pub IsDone : {X : Type 0} → Whole X → List queue.Tombstone → X → Bool → Type 0
+IsDone W ts x b = b ≡ true → (length ts ≡ 0) × ((id : ItemId) → PlansTurn W id x Nothing)
+
 -- all turns, of these tombstones and of the items as they are now
 abbrev pub push_with : List Tombstone → Arrow State (Unit {0})
 push_with ts s = push_lists ts (map (λ i. i.id) (by_depth (items_now s) (items_now s))) s

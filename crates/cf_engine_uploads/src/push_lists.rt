@@ -1,17 +1,17 @@
 //! The tombstones and items of a pass, each at its turn.
 
-ghost use Rattle.std.specs.Prelude.{map};
+ghost use Rattle.std.specs.Prelude.{IfOk, map};
 ghost use Rattle.cf_engine_queue.specs.Books.{tombstone_value};
 ghost use Rattle.cf_engine_steps.specs.Answering.{Answers, Any};
 ghost use Rattle.cf_engine_steps.specs.States.{whole};
 ghost use Rattle.cf_model.specs.Arrows.{each};
-ghost use Rattle.cf_engine_uploads.specs.Turns.{push_one, push_with};
+ghost use Rattle.cf_engine_uploads.specs.Turns.{IsDone, push_one, push_with};
 ghost use Rattle.cf_model.specs.Pushes.{push_all, push_lists, push_turn};
 
 use crate::removals::push_tombstone;
 use crate::senders::Sender;
-use crate::turns::{next_turn, take_turn};
-use cf_base::{CallError, ItemId};
+use crate::turns::{is_idle, next_turn, take_turn};
+use cf_base::{CallError, ItemId, OutOfMemory};
 use cf_engine_host::EngineHost;
 use cf_engine_queue::Tombstone;
 use cf_engine_steps::{Engine, queue};
@@ -64,7 +64,7 @@ fn push_lists<S: EngineHost, R: Remote, T: Sender>(
 }
 
 // With the items as they are now.
-fn push_with<S: EngineHost, R: Remote, T: Sender>(
+fn push_now<S: EngineHost, R: Remote, T: Sender>(
     s: &mut S,
     e: &mut Engine<R>,
     sender: &T,
@@ -76,6 +76,38 @@ fn push_with<S: EngineHost, R: Remote, T: Sender>(
     let done = push_lists(s, e, sender, tombstones, ids.as_slice());
     drop(ids);
     done
+}
+
+// Whether there is no tombstone, and no item has anything to do.
+fn is_done<S: EngineHost, R: Remote>(
+    s: &S,
+    e: &Engine<R>,
+    tombstones: &[Tombstone],
+) -> Result<bool, OutOfMemory>
+    ensures { IfOk result (IsDone (whole S.sense R.told) tombstones.now (s.now, e.now)) }
+{
+    if tombstones.is_empty() {
+        is_idle(s, e)
+    } else {
+        Ok(false)
+    }
+}
+
+// Where nothing has anything to do, the order of the items is not asked.
+fn push_with<S: EngineHost, R: Remote, T: Sender>(
+    s: &mut S,
+    e: &mut Engine<R>,
+    sender: &T,
+    tombstones: &[Tombstone],
+) -> Result<(), CallError>
+    ensures { Answers (whole S.sense R.told) Any (push_with (map tombstone_value tombstones.now)) (s.old, e.old) result (s.new, e.new) }
+{
+    let done = is_done(s, e, tombstones)?;
+    if done {
+        Ok(())
+    } else {
+        push_now(s, e, sender, tombstones)
+    }
 }
 
 /// Uploads what this device has and the remote lacks. First each tombstone, by number, then each item, by depth and then by id, has its

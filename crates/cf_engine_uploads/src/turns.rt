@@ -5,7 +5,7 @@ ghost use Rattle.cf_engine_steps.specs.Answering.{Answers, Any};
 ghost use Rattle.cf_engine_steps.specs.States.{whole};
 ghost use Rattle.cf_engine_host.specs.BookSteps.{records_of};
 ghost use Rattle.cf_engine_steps.specs.Marks.{StandsIf};
-ghost use Rattle.cf_engine_uploads.specs.Turns.{IsCase, IsLeftOut, IsNext, PlansTurn, is_nothing};
+ghost use Rattle.cf_engine_uploads.specs.Turns.{AreIdle, IsCase, IsIdle, IsLeftOut, IsNext, PlansTurn, is_nothing};
 ghost use Rattle.cf_filter_steps.specs.Answering.{Any as AnyFilter, Reads as FilterReads};
 ghost use Rattle.cf_model.specs.Pushes.{push_turn};
 
@@ -159,6 +159,30 @@ pub(crate) fn next_turn<S: EngineHost, R: Remote>(
         }
     }
     Ok(None)
+}
+
+fn are_idle<S: EngineHost, R: Remote>(
+    s: &S,
+    e: &Engine<R>,
+    rows: &[Row],
+) -> Result<bool, OutOfMemory>
+    ensures { IfOk result (AreIdle (whole S.sense R.told) rows.now (s.now, e.now)) }
+{
+    let mut seen = SeenPaths::new(s.records());
+    for row in rows {
+        let course = course_of(s, e, &mut seen, row.id)?;
+        if !is_nothing(course) {
+            return Ok(false);
+        }
+    }
+    Ok(true)
+}
+
+/// Whether no item has anything to do. A step for each, in order of id: where the items stand in the tree is not asked.
+pub(crate) fn is_idle<S: EngineHost, R: Remote>(s: &S, e: &Engine<R>) -> Result<bool, OutOfMemory>
+    ensures { IfOk result (IsIdle (whole S.sense R.told) (s.now, e.now)) }
+{
+    are_idle(s, e, s.rows().as_slice())
 }
 
 /// Does what an item needs to be in sync, as it is at its turn: an upload, or a mark.

@@ -1,8 +1,6 @@
-use Rattle.cf_engine_queue.specs.Books.{tombstone_value}
-use Rattle.cf_engine_uploads.proofs.Listed.{with_items}
-use Rattle.std.proofs.Common.{◌∙◌}
-use Rattle.std.specs.Prelude.{map}
+use Rattle.cf_engine_steps.specs.States.{whole}
+use Rattle.cf_engine_uploads.proofs.Idle.{none_pushed}
 use Rattle.cf_engine_uploads.proofs.push_lists.push_with.Goals as goal
 
-pub returns : goal.returns
-returns g c = with_items g.S.Steps.sense g.R.Remote.told c.args.s.now c.push_lists-done.new.s c.args.e.now c.push_lists-done.new.e c.push_lists-done.result c.rows.result.now (map tombstone_value c.args.tombstones.now) c.as_slice.result.now c.rows.ensures.means (λ items m t. c.as_slice.ensures.value ∙ c.in_ok-ids.ensures items m t) c.push_lists-done.ensures
+pub returns-then-done : goal.returns-then-done
+returns-then-done g c = let none = c.in_ok-done.ensures c.if-done.true in none_pushed (whole g.S.Steps.sense g.R.Remote.told) (c.args.s.now, c.args.e.now) none.1 c.args.tombstones.now none.0
