@@ -3,9 +3,10 @@
 
 A time is the processor seconds that the program and the system spent for it, the least of some runs, with output to a
 file; so what else the machine does counts little. The system counts their sum exactly, and tells the program's own part
-by samples alone, which is nothing to measure a few milliseconds by. Memory is the most that the program held on the
-whole, in MiB. Another program with the same command line may stand beside: then the ratios of the two on the whole are
-printed, and the first line in which their reports differ.
+by samples alone, which is nothing to measure a few milliseconds by. Half and whole run in turn, so what slows the machine
+for a while meets both. Memory is the most that the program held on the whole, in MiB. Another program with the same
+command line may stand beside, and runs in turn too: then the ratios of the two on the whole are printed, and the first
+line in which their reports differ.
 
 `--commits` times a write and a flush on volumes of 10, 1,000 and 9,000 files instead: a script with 1,000 rounds of
 both, less the same script without them.
@@ -42,9 +43,8 @@ def run(program, mode, script, report):
     return Cost(used.ru_utime + used.ru_stime, used.ru_maxrss / 1024) if child.returncode == 0 else None
 
 
-def least(program, mode, script, report, runs):
-    """The run of some that took the least time, or None where one did not end as Done."""
-    costs = [run(program, mode, script, report) for _ in range(runs)]
+def least(costs):
+    """The cost of the run that took the least time, or None where one did not end as Done."""
     return None if None in costs else min(costs)
 
 
@@ -70,15 +70,23 @@ def written(folder, name, events):
     return path, count
 
 
-def measured(folder, name, mode, events, chosen):
-    """How many events there are, what each program took, and what is to say of the reports."""
-    script, count = written(folder, name, events)
-    reports = [folder / f"report-{n}" for n in range(len(chosen.programs))]
-    costs = [least(p, mode, script, r, chosen.runs) for p, r in zip(chosen.programs, reports)]
-    line = difference(*reports) if len(reports) == 2 else None
+def measured(folder, mode, made, chosen):
+    """For each script, by its name, how many events it has and what each program took; and what is to say of the reports.
+
+    Each round runs each script once by each program."""
+    files = {name: written(folder, name, events) for name, events in made.items()}
+    reports = {name: [folder / f"{name}.report-{n}" for n in range(len(chosen.programs))] for name in made}
+    costs = {name: [[] for _ in chosen.programs] for name in made}
+    for _ in range(chosen.runs):
+        for number, program in enumerate(chosen.programs):
+            for name, (script, _) in files.items():
+                costs[name][number].append(run(program, mode, script, reports[name][number]))
+    lines = {name: difference(*pair) for name, pair in reports.items() if len(pair) == 2}
     if not chosen.keep:
-        script.unlink()
-    return count, costs, [f"{name}: the reports differ in line {line}"] if line else []
+        for path in [script for script, _ in files.values()] + sum(reports.values(), []):
+            path.unlink()
+    found = [(count, [least(runs) for runs in costs[name]]) for name, (_, count) in files.items()]
+    return found, [f"{name}: the reports differ in line {line}" for name, line in lines.items() if line]
 
 
 def shown(half, whole):
@@ -104,12 +112,12 @@ def speeds(folder, chosen):
         if chosen.only and make.__name__ not in chosen.only:
             continue
         size //= chosen.divide
-        _, half, said = measured(folder, f"{make.__name__}-half", mode, make(size // 2), chosen)
-        count, whole, more = measured(folder, make.__name__, mode, make(size), chosen)
+        parts = {f"{make.__name__}-half": make(size // 2), make.__name__: make(size)}
+        [(_, half), (count, whole)], said = measured(folder, mode, parts, chosen)
         cells = [shown(h, w) for h, w in zip(half, whole)]
         if len(cells) == 2:
             cells[1] += quotient(*whole, "seconds") + quotient(*whole, "mebibytes")
-        print(f"{make.__name__:<10}{mode:<7}{count:>8} |" + " |".join(cells), *said, *more, sep="\n" if said or more else "", flush=True)
+        print(f"{make.__name__:<10}{mode:<7}{count:>8} |" + " |".join(cells), *said, sep="\n", flush=True)
 
 
 def rounds(folder, chosen):
@@ -117,17 +125,17 @@ def rounds(folder, chosen):
     print("milliseconds of a write of 8 bytes and a flush")
     print(f"{'files':>6}" + "".join(f"{name:>10}" for name in ("program", "other")[: len(chosen.programs)]))
     for items in ITEMS:
-        _, bare, said = measured(folder, f"bare-{items}", "filter", scripts.commits(items, 0), chosen)
-        _, full, more = measured(folder, f"commits-{items}", "filter", scripts.commits(items, ROUNDS), chosen)
+        parts = {f"bare-{items}": scripts.commits(items, 0), f"commits-{items}": scripts.commits(items, ROUNDS)}
+        [(_, bare), (_, full)], said = measured(folder, "filter", parts, chosen)
         costs = [f"{'no end':>10}" if None in pair else f"{(pair[0].seconds - pair[1].seconds) * 1000 / ROUNDS:>10.3f}" for pair in zip(full, bare)]
-        print(f"{items:>6}" + "".join(costs), *said, *more, sep="\n" if said or more else "", flush=True)
+        print(f"{items:>6}" + "".join(costs), *said, sep="\n", flush=True)
 
 
 def words():
     parser = argparse.ArgumentParser(description=__doc__, formatter_class=argparse.RawDescriptionHelpFormatter)
     parser.add_argument("--program", type=pathlib.Path, help="the program; else the proved one, where it is here")
     parser.add_argument("--keep", metavar="FOLDER", type=pathlib.Path, help="keep the scripts and last reports there")
-    parser.add_argument("--runs", type=int, default=3, help="runs of each script, from 1 (3)")
+    parser.add_argument("--runs", type=int, default=5, help="runs of each script, from 1 (5)")
     parser.add_argument("--divide", type=int, default=1, help="divide the sizes of the scripts by this number (1)")
     parser.add_argument("--only", action="append", metavar="SCRIPT", help="this script only; may be given several times")
     parser.add_argument("--commits", action="store_true", help="time a write and a flush instead")
