@@ -1,7 +1,6 @@
 -- Entries of a directory that are given, as parts of the whole.
-use Rattle.std.proofs.Common.{◌≡◌, true, List, refl, sym, ◌∙◌, ap, subst, map}
+use Rattle.std.proofs.Common.{◌≡◌, true, List, refl, ◌∙◌, ap, subst, map}
 use Rattle.std.specs.Prelude.{Result, Ok, Err, Option, Some, None}
-use Rattle.cf_base.specs.declared.answers.AuxRecord.{AuxRecord}
 use Rattle.cf_base.specs.declared.answers.Shown.{Shown}
 use Rattle.cf_base.specs.declared.answers.Shown.TheVariants as shown
 use Rattle.cf_base.specs.declared.codes.Code.{Code}
@@ -12,41 +11,28 @@ use Rattle.cf_base.specs.declared.messages.Entry.{Entry}
 use Rattle.cf_base.specs.declared.operations.NewItem.{NewItem}
 use Rattle.cf_base.specs.declared.operations.Operation.{Operation}
 use Rattle.cf_base.specs.declared.operations.Operation.TheVariants as operation
-use Rattle.cf_engine_messages.specs.Listings.{AreListed, Spells}
+use Rattle.cf_engine_messages.specs.Listings.{AreListed}
 use Rattle.cf_engine_messages.specs.Refusals.{refusal_of}
 use Rattle.cf_engine_messages.proofs.Operated.{as_arrow, quiet_op}
-use Rattle.cf_engine_messages.proofs.PathRecords.{records_beside}
 use Rattle.cf_engine_provider.specs.Listings.{AreAlike, known_in, paths_from}
 use Rattle.cf_engine_provider.specs.Parts.{give_entries}
 use Rattle.cf_engine_provider.proofs.Heard.{left_of, listing_by}
-use Rattle.cf_engine_queue.specs.Records.{IsKeepable}
 use Rattle.cf_engine_steps.specs.Answering.{After, Answers, Any}
 use Rattle.cf_engine_steps.specs.States.{Own, whole}
 use Rattle.cf_engine_steps.proofs.Laws.{fails_first, goes_any, returned}
 use Rattle.cf_engine_steps.proofs.Lifting.{lift_any}
-use Rattle.cf_filter_calls.specs.Operating.{Keeps}
 use Rattle.cf_filter_steps.specs.Answering as steps
 use Rattle.cf_filter_steps.specs.Finding.{HasRows}
-use Rattle.cf_filter_steps.specs.Listing.{HasRecordsBeside}
 use Rattle.cf_model.specs.Arrows.{ret, unit}
-use Rattle.cf_model.specs.Changes.{next_number}
 use Rattle.cf_model.specs.Fetching.{after_listing, new_item_of, take_listing}
 use Rattle.cf_model.specs.Fits.{Known}
 use Rattle.cf_model.specs.Items.{Item}
 use Rattle.cf_model.specs.Operations.{execute_with}
 use Rattle.cf_model.specs.Ports.{seeing}
-use Rattle.cf_model.specs.State.{Filter, State, in_filter}
+use Rattle.cf_model.specs.State.{State, in_filter}
 use Rattle.cf_model.specs.Trees.{Does, Tree}
 use Rattle.cf_remote.specs.Told.{Told}
 use Rattle.cf_table.specs.Tables.{MeansAll, Table}
-
--- an operation with the records may be done in each state
-pub seen_beside : {X : Type 0} (S : steps.Sense X) → ((x : X) (s : Filter) → S.means x s → IsKeepable s.volume.book) → (x y : X) (seen : List SeenPath) (records : List AuxRecord) (op : Operation) (r : Result Shown CallError) → Spells seen records
-    → steps.Answers S (Keeps (seeing seen) records) (execute_with (seeing seen) op) x r y → steps.Answers S steps.Any (execute_with (seeing seen) op) x r y
-seen_beside S keepable x y seen records op r spells h = record {
-  leads = λ s i any.
-      h.leads s i (subst (λ (l : List AuxRecord). HasRecordsBeside (next_number s.volume) s.volume.book l (seeing seen s.volume.book)) (sym spells.are) (records_beside (next_number s.volume) seen s.volume.book spells.fits (keepable x s i)));
-}
 
 pub not_refused : (key : Key) (a : Shown) → refusal_of a ≡ None → after_listing key a ≡ ret unit
 not_refused key (shown.Refused d) e = let bad : ◌≡◌ {A = Option Code} (Some d) None = e in cc

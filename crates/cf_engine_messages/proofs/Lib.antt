@@ -1,7 +1,6 @@
 pub mod Entered
 pub mod KnownItems
 pub mod Operated
-pub mod PathRecords
 pub mod RepliesTaken
 pub mod StaleReplies
 pub mod Unread

@@ -2,9 +2,8 @@
 
 ghost use Rattle.std.specs.Prelude.{IfOk};
 ghost use Rattle.cf_base.specs.declared.answers.Shown.TheVariants as shown;
-ghost use Rattle.cf_engine_messages.specs.Listings.{AreListed, Spells};
+ghost use Rattle.cf_engine_messages.specs.Listings.{AreListed};
 ghost use Rattle.cf_engine_provider.specs.Parts.{give_entries};
-ghost use Rattle.cf_engine_queue.specs.Records.{IsSeen};
 ghost use Rattle.cf_engine_steps.specs.Answering.{Answers, Any};
 ghost use Rattle.cf_engine_steps.specs.States.{whole};
 ghost use Rattle.cf_model.specs.Arrows.{then_do};
@@ -17,37 +16,15 @@ ghost use Rattle.cf_filter_steps.specs.Answering.{Answers as FilterAnswers, Any 
 use crate::operations::refusal_of;
 use crate::refusals::no_entries;
 use cf_base::{
-    AuxRecord, CallError, Code, Entry, Key, NewItem, Operation, OutOfMemory, SeenPath, Sequence,
-    Shown, is_name, no_such_state,
+    CallError, Code, Entry, Key, NewItem, Operation, OutOfMemory, SeenPath, Sequence, Shown,
 };
 use cf_engine_host::EngineHost;
 use cf_engine_provider::{locals_of, new_items, paths_from, unknown};
-use cf_engine_queue::spell_seen;
+use cf_engine_queue::spell_paths;
 use cf_engine_steps::{Engine, skip};
 use cf_filter_calls::execute_with;
 use cf_remote::Remote;
 use std::alloc::Global;
-
-// No path is seen whose name is none.
-fn spell_path(alloc: Global, path: &SeenPath) -> Result<AuxRecord, OutOfMemory>
-    ensures { IfOk result (λ r. IsSeen r path.now) }
-{
-    if !is_name(path.name.as_slice()) {
-        return Err(no_such_state());
-    }
-    spell_seen(alloc, path)
-}
-
-// The records of these paths, in order.
-fn spell_paths(alloc: Global, paths: &[SeenPath]) -> Result<Sequence<AuxRecord>, OutOfMemory>
-    ensures { IfOk result (Spells paths.now) }
-{
-    let mut records = Sequence::new(alloc);
-    for path in paths {
-        records.push(spell_path(alloc, path)?)?;
-    }
-    Ok(records)
-}
 
 // An operation, with these paths seen in the same step.
 fn execute_seeing<S: EngineHost>(

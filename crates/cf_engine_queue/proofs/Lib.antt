@@ -12,3 +12,4 @@ pub mod Found
 pub mod UploadRecords
 pub mod PutBack
 mod WalkLaws
+pub mod SeenRecords

@@ -1,5 +1,5 @@
 -- The auxiliary records by which a book is kept: which record says what.
-use Rattle.std.specs.Prelude.{◌≡◌, ◌<◌, ◌^◌, ℕ, true, List, [], ◌∷◌, codes, Result, Ok, Err}
+use Rattle.std.specs.Prelude.{◌≡◌, ◌<◌, ◌^◌, ℕ, true, List, [], ◌∷◌, ◌++◌, codes, map, Result, Ok, Err}
 use Rattle.std.specs.List.{AllByRecursion}
 use Rattle.cf_base.specs.declared.answers.AuxRecord.{AuxRecord}
 use Rattle.cf_base.specs.declared.codes.Code.TheVariants as code
@@ -63,6 +63,16 @@ pub record IsSeen (r : AuxRecord) (p : SeenPath) : Type 0 where
 pub record IsTombstone (r : AuxRecord) (t : model.Tombstone) : Type 0 where
   pub fits : FitsTombstone t
   pub spelled : r ≡ tombstone_record t
+
+-- the records of paths seen, which fit them
+pub record AreSeen (paths : List SeenPath) (records : List AuxRecord) : Type 0 where
+  pub are : records ≡ map seen_record paths
+  pub fits : AllByRecursion FitsSeen paths
+
+-- With the records of the paths that are left they are all, and those that do not fit are left.
+pub record AreSeenBut (left all : List SeenPath) (records : List AuxRecord) : Type 0 where
+  pub are : records ++ map seen_record left ≡ map seen_record all
+  pub fits : AllByRecursion FitsSeen left → AllByRecursion FitsSeen all
 
 abbrev pub Says : AuxRecord → Record → Type 0
 Says r (said.Cursor clock) = IsCursor r clock

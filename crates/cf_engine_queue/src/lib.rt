@@ -30,7 +30,9 @@ pub use look_ups::{find_cursor, find_entry, find_seen, find_tombstone, is_seen_a
 pub use pending_uploads::{has_uploads, load_pending, load_uploads, sends_new};
 pub use queues::Queue;
 pub use record_reads::{read_cursor, read_record, read_seen};
-pub use record_writes::{entry_key, seen_key, spell_cursor, spell_seen, tombstone_key};
+pub use record_writes::{
+    entry_key, seen_key, spell_cursor, spell_paths, spell_seen, tombstone_key,
+};
 pub use records::Record;
 pub use seen_paths::SeenPaths;
 pub use uploads::{Action, QueueEntry, Tombstone};

@@ -5,10 +5,12 @@ ghost use Rattle.cf_base.specs.Names.{is_name};
 ghost use Rattle.cf_model.specs.Books.{action_byte, key_bytes, seen_record, usn_bytes};
 ghost use Rattle.cf_model.specs.Words.{in_bytes};
 ghost use Rattle.cf_engine_queue.specs.Books.{action_of, entry_value, tombstone_value};
-ghost use Rattle.cf_engine_queue.specs.Records.{FitsKey, FitsUsn, IsCursor, IsEntry, IsSeen, IsTombstone};
+ghost use Rattle.cf_engine_queue.specs.Records.{AreSeen, FitsKey, FitsUsn, IsCursor, IsEntry, IsSeen, IsTombstone};
 
 use crate::uploads::{Action, QueueEntry, Tombstone};
-use cf_base::{AuxRecord, Blob, ItemId, OutOfMemory, SeenPath, Token, Usn};
+use cf_base::{
+    AuxRecord, Blob, ItemId, OutOfMemory, SeenPath, Sequence, Token, Usn, is_name, no_such_state,
+};
 use cf_codec::Writer;
 use std::alloc::Global;
 
@@ -93,14 +95,28 @@ fn seen_value(alloc: Global, seen: &SeenPath) -> Result<Blob, OutOfMemory>
     Ok(out.into_blob())
 }
 
-/// The auxiliary record of a path seen, of which `read_seen` gives the path back.
+/// The auxiliary record of a path seen, of which `read_seen` gives the path back. No path is seen whose name is none: of such a one it
+/// is out of memory.
 pub fn spell_seen(alloc: Global, seen: &SeenPath) -> Result<AuxRecord, OutOfMemory>
-    ensures spelled { IfOk result (λ r. r ≡ seen_record seen.now) }
-    ensures read_again { is_name seen.now.name ≡ true → IfOk result (λ r. IsSeen r seen.now) }
+    ensures { IfOk result (λ r. IsSeen r seen.now) }
 {
+    if !is_name(seen.name.as_slice()) {
+        return Err(no_such_state());
+    }
     let key = seen_key(alloc, seen.item)?;
     let value = seen_value(alloc, seen)?;
     Ok(AuxRecord { key, value })
+}
+
+/// The auxiliary records of these paths seen, in order. It is out of memory where `spell_seen` is.
+pub fn spell_paths(alloc: Global, paths: &[SeenPath]) -> Result<Sequence<AuxRecord>, OutOfMemory>
+    ensures { IfOk result (AreSeen paths.now) }
+{
+    let mut records = Sequence::new(alloc);
+    for path in paths {
+        records.push(spell_seen(alloc, path)?)?;
+    }
+    Ok(records)
 }
 
 fn entry_value(alloc: Global, entry: &QueueEntry) -> Result<Blob, OutOfMemory>

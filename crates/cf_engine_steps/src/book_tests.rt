@@ -1,18 +1,17 @@
 //! What is tested of the book before a record is put.
 
-ghost use Rattle.std.specs.Prelude.{◌≡◌, ◌||◌, IfOk, OnOk, true};
+ghost use Rattle.std.specs.Prelude.{◌≡◌, ◌||◌, IfOk, true};
 ghost use Rattle.std.specs.List.{list_all};
 ghost use Rattle.cf_base.specs.declared.answers.AuxRecord.{AuxRecord};
-ghost use Rattle.cf_base.specs.Names.{is_name};
 ghost use Rattle.cf_engine_queue.specs.Books.{entry_value, tombstone_value};
 ghost use Rattle.cf_engine_queue.specs.Keys.{AreByKey};
 ghost use Rattle.cf_engine_steps.specs.Recorded.{GivenIf, NewIf, PutsIf, comes_after_entries};
-ghost use Rattle.cf_model.specs.Books.{with_entry, with_seen, with_tombstone};
+ghost use Rattle.cf_model.specs.Books.{with_entry, with_tombstone};
 ghost use Rattle.cf_model.specs.Words.{comes_before};
 
-use cf_base::{AuxRecord, Name, OutOfMemory, SeenPath, Usn, is_name, no_such_state};
+use cf_base::{AuxRecord, OutOfMemory, Usn, no_such_state};
 use cf_engine_host::EngineHost;
-use cf_engine_queue::{QueueEntry, Tombstone, find_tombstone, spell_seen};
+use cf_engine_queue::{QueueEntry, Tombstone, find_tombstone};
 use cf_table::is_above;
 use cf_volume_image::AuxRecords;
 
@@ -85,23 +84,4 @@ pub(crate) fn spell_tombstone<S: EngineHost>(
         return Err(no_such_state());
     }
     Ok(record)
-}
-
-// A name that is none cannot be kept.
-fn check_name(name: &Name) -> Result<(), OutOfMemory>
-    ensures { OnOk result (is_name name.now ≡ true) }
-{
-    if is_name(name.as_slice()) {
-        Ok(())
-    } else {
-        Err(no_such_state())
-    }
-}
-
-/// The record of a path seen. One whose name is none is never to be put: then it is out of memory.
-pub(crate) fn spell_path<S: EngineHost>(s: &S, seen: &SeenPath) -> Result<AuxRecord, OutOfMemory>
-    ensures { IfOk result (λ r. PutsIf S.sense r (with_seen seen.now) s.now) }
-{
-    check_name(&seen.name)?;
-    spell_seen(s.alloc(), seen)
 }

@@ -7,11 +7,11 @@ ghost use Rattle.cf_model.specs.Books.{with_seen};
 ghost use Rattle.cf_model.specs.Skips.{try_book, try_seen};
 ghost use Rattle.cf_filter_steps.specs.Answering.{Any as AnyFilter, Reads as FilterReads};
 
-use crate::book_tests::spell_path;
 use crate::books::put_or_leave_out;
 use crate::engines::Engine;
 use cf_base::{CallError, ItemId, SeenPath};
 use cf_engine_host::EngineHost;
+use cf_engine_queue::spell_seen;
 use cf_filter_steps::Steps;
 use cf_remote::Remote;
 
@@ -33,7 +33,7 @@ fn put_seen<S: EngineHost, R: Remote>(
 ) -> Result<bool, CallError>
     ensures { Answers (whole S.sense R.told) Any (try_book (with_seen seen.now)) (s.old, e.old) result (s.new, e.new) }
 {
-    let record = spell_path(s, seen)?;
+    let record = spell_seen(s.alloc(), seen)?;
     put_or_leave_out(s, e, &record)
 }
 

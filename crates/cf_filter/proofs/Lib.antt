@@ -3,7 +3,6 @@ pub mod Booked
 pub mod Called
 pub mod Drained
 pub mod Handed
-pub mod PathsSeen
 pub mod Ported
 pub mod Provided
 pub mod Recorded

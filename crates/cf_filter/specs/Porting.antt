@@ -1,33 +1,18 @@
 -- What a provider does to a filter from inside a callback.
-use Rattle.std.specs.Prelude.{◌≡◌, Bool, true, false, List, [], ◌∷◌, ◌++◌, map}
-use Rattle.std.specs.List.{AllByRecursion}
-use Rattle.cf_base.specs.declared.answers.AuxRecord.{AuxRecord}
-use Rattle.cf_base.specs.declared.items.SeenPath.{SeenPath}
+use Rattle.std.specs.Prelude.{◌≡◌, Bool, true, false, List, [], ◌∷◌, ◌++◌}
 use Rattle.cf_base.specs.declared.notices.Notice.{Notice}
 use Rattle.cf_disk.specs.Disk.{State}
 use Rattle.cf_provider.specs.Sights.{Sight}
-use Rattle.cf_engine_queue.specs.Records.{FitsSeen}
 use Rattle.cf_engine_host.specs.Callbacks.{NoneFailed}
 use Rattle.cf_filter_machine.specs.Held.{Held}
 use Rattle.cf_filter_machine.specs.Lasting.{Lasts, Moved}
 use Rattle.cf_filter_machine.specs.Sensing.{Rose, Stands, Stopped}
-use Rattle.cf_model.specs.Books.{seen_record}
 use Rattle.cf_model.specs.Ports.{Act, Acts, Did, Failed, HasFailed, Noted}
 use Rattle.cf_model.specs.State.{Filter}
 
 -- what a provider sees of a filter
 abbrev pub sight_of : {D : Type 0} → Held D → Sight
 sight_of x = record { table = x.known.table; waiting = x.desk.waiting; records = x.known.records }
-
--- the records of paths seen, which fit them
-pub record Spells (seen : List SeenPath) (records : List AuxRecord) : Type 0 where
-  pub are : records ≡ map seen_record seen
-  pub fits : AllByRecursion FitsSeen seen
-
--- With the records of the paths that are left they are all, and those that do not fit are left.
-pub record HasSpelled (records : List AuxRecord) (left all : List SeenPath) : Type 0 where
-  pub are : records ++ map seen_record left ≡ map seen_record all
-  pub fits : AllByRecursion FitsSeen left → AllByRecursion FitsSeen all
 
 -- the notes among them
 abbrev pub notes_of : List Act → List Notice

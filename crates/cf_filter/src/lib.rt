@@ -17,7 +17,6 @@ mod item_calls;
 mod item_facts;
 mod openings;
 mod operations;
-mod paths;
 mod placements;
 mod ports;
 mod readouts;

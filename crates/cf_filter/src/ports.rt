@@ -4,9 +4,9 @@ ghost use Rattle.std.specs.Prelude.{◌≡◌};
 ghost use Rattle.cf_model.specs.Arrows.{is_device};
 
 use crate::filters::FilterOn;
-use crate::paths::spell_paths;
 use crate::shown_values::outcome;
 use cf_base::{Ask, AuxRecord, CallError, Code, Key, Notice, Operation, OutOfMemory, SeenPath};
+use cf_engine_queue::spell_paths;
 use cf_provider::{Outcome, Port};
 use cf_table::Rows;
 use cf_volume_ground::Ground;
@@ -27,7 +27,8 @@ impl<G: Ground> FilterOn<G> {
     ghost use Rattle.cf_base.specs.declared.waits.Ask.{Ask};
     ghost use Rattle.cf_provider.specs.Acting.{Executes};
     ghost use Rattle.cf_filter.specs.Calling.{stopped_by};
-    ghost use Rattle.cf_filter.specs.Porting.{Goes, Spells};
+    ghost use Rattle.cf_engine_queue.specs.Records.{AreSeen};
+    ghost use Rattle.cf_filter.specs.Porting.{Goes};
 
     /// Whether a call was stopped. Then every call is refused as Broken.
     pub fn is_broken(&self) -> bool
@@ -80,7 +81,7 @@ impl<G: Ground> FilterOn<G> {
         op: &Operation,
         records: &[AuxRecord],
     ) -> Result<Outcome, CallError>
-        ensures { (seen : List SeenPath) → Spells seen records.now → Executes (Goes G.state) seen op.now self.old result self.new }
+        ensures { (seen : List SeenPath) → AreSeen seen records.now → Executes (Goes G.state) seen op.now self.old result self.new }
     {
         if self.is_broken() {
             return Err(CallError::No(Code::Broken));

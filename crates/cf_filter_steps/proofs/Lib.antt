@@ -6,3 +6,4 @@ pub mod RowReads
 pub mod AskRule
 pub mod Sighted
 pub mod SeenAfter
+pub mod RecordsBeside
