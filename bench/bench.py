@@ -4,9 +4,9 @@
 A time is the processor seconds that the program and the system spent for it, the least of some runs, with output to a
 file; so what else the machine does counts little. The system counts their sum exactly, and tells the program's own part
 by samples alone, which is nothing to measure a few milliseconds by. Half and whole run in turn, so what slows the machine
-for a while meets both. Memory is the most that the program held on the whole, in MiB. Another program with the same
-command line may stand beside, and runs in turn too: then the ratios of the two on the whole are printed, and the first
-line in which their reports differ.
+for a while meets both. A run of over five seconds is not repeated. Memory is the most that the program held on the whole,
+in MiB. Another program with the same command line may stand beside, and runs in turn too: then the ratios of the two on
+the whole are printed, and the first line in which their reports differ.
 
 `--commits` times a write and a flush on volumes of 10, 1,000 and 9,000 files instead: a script with 1,000 rounds of
 both, less the same script without them.
@@ -25,6 +25,8 @@ import scripts
 TOP = pathlib.Path(__file__).resolve().parent.parent
 ITEMS = [10, 1000, 9000]
 ROUNDS = 1000
+# A run that takes so many seconds is long enough to be told by one.
+LONG = 5
 
 
 class Cost(typing.NamedTuple):
@@ -46,6 +48,11 @@ def run(program, mode, script, report):
 def least(costs):
     """The cost of the run that took the least time, or None where one did not end as Done."""
     return None if None in costs else min(costs)
+
+
+def is_long(costs):
+    """Whether one of these runs did not end as Done, or took so long that it need not be repeated."""
+    return any(cost is None or cost.seconds > LONG for cost in costs)
 
 
 def difference(first, second):
@@ -73,14 +80,15 @@ def written(folder, name, events):
 def measured(folder, mode, made, chosen):
     """For each script, by its name, how many events it has and what each program took; and what is to say of the reports.
 
-    Each round runs each script once by each program."""
+    Each round runs each script once by each program, but for those that take long."""
     files = {name: written(folder, name, events) for name, events in made.items()}
     reports = {name: [folder / f"{name}.report-{n}" for n in range(len(chosen.programs))] for name in made}
     costs = {name: [[] for _ in chosen.programs] for name in made}
     for _ in range(chosen.runs):
         for number, program in enumerate(chosen.programs):
             for name, (script, _) in files.items():
-                costs[name][number].append(run(program, mode, script, reports[name][number]))
+                if not is_long(costs[name][number]):
+                    costs[name][number].append(run(program, mode, script, reports[name][number]))
     lines = {name: difference(*pair) for name, pair in reports.items() if len(pair) == 2}
     if not chosen.keep:
         for path in [script for script, _ in files.values()] + sum(reports.values(), []):
