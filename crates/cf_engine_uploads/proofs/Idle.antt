@@ -10,7 +10,7 @@ use Rattle.cf_engine_steps.specs.States.{Own, whole}
 use Rattle.cf_engine_steps.proofs.Laws.{returned}
 use Rattle.cf_engine_uploads.proofs.Trees.{same_at}
 use Rattle.cf_engine_uploads.proofs.Turned.{turn_gone}
-use Rattle.cf_engine_uploads.specs.Turns.{AreIdle, IsIdle, PlansTurn, push_with}
+use Rattle.cf_engine_uploads.specs.Turns.{AreIdle, IsDone, IsIdle, PlansTurn, push_with}
 use Rattle.cf_engine_uploads.specs.declared.turns.Course.TheVariants.{Nothing}
 use Rattle.cf_filter_steps.specs.Answering as steps
 use Rattle.cf_filter_steps.specs.Finding.{HasRows}
@@ -44,7 +44,8 @@ all_idle S told x e t rows idle id = by (row_of t.rows id) refl where
 
 pub rows_idle : {X R : Type 0} (S : steps.Sense X) (told : R → Told) (x : X) (e : Own R) (t : Table) → HasRows S x t → (rows : List Row) → rows ≡ t.rows
     → (b : Bool) → AreIdle (whole S told) rows (x, e) b → IsIdle (whole S told) (x, e) b
-rows_idle S told x e t has rows same b idle = λ yes'. all_idle S told x e t has (subst (λ (rs : List Row). (k : ℕ) (d : Row) → k < length rs → PlansTurn (whole S told) (get_or rs k d).id (x, e) Nothing) same (idle yes'))
+rows_idle S told x e t has rows same true idle = all_idle S told x e t has (subst (λ (rs : List Row). (k : ℕ) (d : Row) → k < length rs → PlansTurn (whole S told) (get_or rs k d).id (x, e) Nothing) same idle)
+rows_idle S told x e t has rows same false turn = turn
 
 -- one more row has nothing to do
 pub idle_more : {X : Type 0} (W : Whole X) (rows : List Row) (x : X) (n : ℕ) (id : ItemId) → ((d : Row) → id ≡ (get_or rows n d).id) → PlansTurn W id x Nothing
@@ -65,3 +66,11 @@ module _ {X : Type 0} (W : Whole X) (x : X) (idle : (id : ItemId) → PlansTurn 
   pub none_pushed : (ts : List Tombstone) → length ts ≡ 0 → Answers W Any (push_with (map tombstone_value ts)) x (Ok unit) x
   none_pushed [] e = same_at W x (Ok unit) x Any (ret unit) (push_with []) (λ s m p. no_turns s m (map (λ i. i.id) (by_depth (items_now s) (items_now s)))) (returned W Any unit x)
   none_pushed (t ∷ ts) e = absurd (omega (arith, e))
+
+pub done_without : {X : Type 0} (W : Whole X) (ts : List Tombstone) (x : X) → (length ts == 0) ≡ true → (b : Bool) → IsIdle W x b → IsDone W ts x b
+done_without W ts x none true idle = (eqb-true (length ts) 0 none, idle)
+done_without W ts x none false turn = inr turn
+
+pub not_done : {X : Type 0} (W : Whole X) (ts : List Tombstone) (x : X) → (length ts == 0) ≡ false → IsDone W ts x false
+not_done W [] x none = let z : true ≡ false = none in cc
+not_done W (t ∷ ts) x some = inl (omega arith)

@@ -1,5 +1,5 @@
 -- What an item's turn is.
-use Rattle.std.specs.Prelude.{◌≡◌, ◌<◌, ◌≤◌, ℕ, Bool, true, false, List, Option, Some, None, drop, get_or, length, map}
+use Rattle.std.specs.Prelude.{◌≡◌, ◌<◌, ◌≤◌, ◌⊎◌, ℕ, Bool, true, false, List, Option, Some, None, drop, get_or, length, map}
 use Rattle.cf_base.specs.declared.ids.ItemId.{ItemId}
 use Rattle.cf_engine_queue.specs.Books.{tombstone_value}
 use Rattle.cf_engine_queue.specs.declared.uploads.Tombstone as queue
@@ -52,18 +52,26 @@ SameTurns W ids from to x = (s : State) → W.means x s → each push_turn (drop
 -- The turns from a place on are those from an item on that has something to do. Where there is no such item, they are nothing.
 abbrev pub IsNext : {X : Type 0} → Whole X → List ItemId → ℕ → X → Option Turn → Type 0
 IsNext W ids from x None = SameTurns W ids from (length ids) x
-IsNext W ids from x (Some t) = (from ≤ t.place) × (t.place < length ids) × SameTurns W ids from t.place x × ((d : ItemId) → PlansTurn W (get_or ids t.place d) x t.course)
+IsNext W ids from x (Some t) =
+    (from ≤ t.place) × (t.place < length ids) × SameTurns W ids from t.place x × ((d : ItemId) → PlansTurn W (get_or ids t.place d) x t.course) × (is_nothing t.course ≡ false)
 
--- where it is so, these rows' items, and all items, have nothing to do
+-- it has something to do
+abbrev pub HasTurn : {X : Type 0} → Whole X → ItemId → X → Type 0
+HasTurn W id x = (c : Course) × (is_nothing c ≡ false) × PlansTurn W id x c
+
+-- whether these rows' items, or all items, have nothing to do
 abbrev pub AreIdle : {X : Type 0} → Whole X → List Row → X → Bool → Type 0
-AreIdle W rows x b = b ≡ true → (k : ℕ) (d : Row) → k < length rows → PlansTurn W (get_or rows k d).id x Nothing
+AreIdle W rows x true = (k : ℕ) (d : Row) → k < length rows → PlansTurn W (get_or rows k d).id x Nothing
+AreIdle W rows x false = (id : ItemId) × HasTurn W id x
 
 abbrev pub IsIdle : {X : Type 0} → Whole X → X → Bool → Type 0
-IsIdle W x b = b ≡ true → (id : ItemId) → PlansTurn W id x Nothing
+IsIdle W x true = (id : ItemId) → PlansTurn W id x Nothing
+IsIdle W x false = (id : ItemId) × HasTurn W id x
 
--- where it is so, there is no tombstone either
+-- whether there is no tombstone either
 abbrev pub IsDone : {X : Type 0} → Whole X → List queue.Tombstone → X → Bool → Type 0
-IsDone W ts x b = b ≡ true → (length ts ≡ 0) × ((id : ItemId) → PlansTurn W id x Nothing)
+IsDone W ts x true = (length ts ≡ 0) × IsIdle W x true
+IsDone W ts x false = (0 < length ts) ⊎ IsIdle W x false
 
 -- all turns, of these tombstones and of the items as they are now
 abbrev pub push_with : List Tombstone → Arrow State (Unit {0})
