@@ -9,9 +9,8 @@ ghost use Rattle.cf_waits.specs.Steps.{Begins, background_id, begun, limits_by};
 ghost use Rattle.cf_filter_steps.specs.Good.{IsSmall};
 ghost use Rattle.cf_table.specs.Means.{Means};
 
-use cf_ask_rule::View;
 use cf_base::{CallError, OutOfMemory, Policy, WaitId};
-use cf_filter_steps::{Need, view_of};
+use cf_filter_steps::{Need, no_view, view_of};
 use cf_ranges::RangeSet;
 use cf_table::Row;
 use cf_waits::{Moves, Requests};
@@ -35,16 +34,7 @@ pub fn is_met_gone(alloc: Global, requests: &Requests, need: &Need) -> Result<bo
     ensures { IfOk result (λ met. met ≡ is_met no_view (wait_after requests.now 0 need.now.kind need.now.item need.now.handle need.now.span)) }
 {
     let none = RangeSet::new(alloc);
-    let v = View {
-        here: &none,
-        valid: &none,
-        modified: &none,
-        size: 0,
-        base: 0,
-        validate: false,
-        full: false,
-        populated: false,
-    };
+    let v = no_view(&none);
     requests.is_met(need.kind, need.item, need.handle, need.span, &v)
 }
 
@@ -79,16 +69,7 @@ pub(crate) fn start_gone(
     ensures begins { Begins (limits_by need.now.kind) (background_id need.now.background need.now.item requests.old) (begun need.now.kind need.now.item need.now.handle need.now.span need.now.background no_view requests.old) requests.old result requests.new }
 {
     let none = RangeSet::new(alloc);
-    let v = View {
-        here: &none,
-        valid: &none,
-        modified: &none,
-        size: 0,
-        base: 0,
-        validate: false,
-        full: false,
-        populated: false,
-    };
+    let v = no_view(&none);
     requests.start(
         need.kind,
         need.item,

@@ -12,8 +12,8 @@ ghost use Rattle.cf_filter_steps.specs.Answering.{Answers, Any};
 ghost use Rattle.cf_filter_steps.specs.Settled.{AreOnFiles, IsStepNow, Looks, LooksGone, LooksNow, tell_moves};
 
 use crate::steps::Steps;
-use crate::views::view_of;
-use cf_ask_rule::{Act, View, Wait};
+use crate::views::{no_view, view_of};
+use cf_ask_rule::{Act, Wait};
 use cf_base::{CallError, Cause, ItemId, OutOfMemory};
 use cf_ranges::RangeSet;
 use cf_table::Row;
@@ -34,16 +34,7 @@ pub(crate) fn look_gone<S: Steps>(s: &S, item: ItemId, act: Act) -> Result<Step,
     ensures looks { IfOk result (λ p. LooksGone S.sense item (deed_of act) p s.now) }
 {
     let none = RangeSet::new(s.alloc());
-    let v = View {
-        here: &none,
-        valid: &none,
-        modified: &none,
-        size: 0,
-        base: 0,
-        validate: false,
-        full: false,
-        populated: false,
-    };
+    let v = no_view(&none);
     s.requests().look(item, act, &v)
 }
 

@@ -17,4 +17,4 @@ pub use needs::Need;
 pub use previews::look_after;
 pub use rooms::Room;
 pub use steps::Steps;
-pub use views::{base_of, view_of};
+pub use views::{base_of, no_view, view_of};

@@ -1,14 +1,16 @@
 //! What the ask rule sees of an item.
 
-ghost use Rattle.std.specs.Prelude.{◌≡◌, ◌≤◌, ◌^◌, ◌||◌, unwrap_or};
+ghost use Rattle.std.specs.Prelude.{[], ◌≡◌, ◌≤◌, ◌^◌, ◌||◌, unwrap_or};
 ghost use Rattle.cf_ask_rule.specs.Sights.{shown};
 ghost use Rattle.cf_model.specs.Items.{Item};
 ghost use Rattle.cf_model.specs.Missing.{is_whole, view_of};
+ghost use Rattle.cf_model.specs.Settling.{no_view};
 ghost use Rattle.cf_filter_steps.specs.Good.{IsSmall};
 ghost use Rattle.cf_table.specs.Means.{Means};
 
 use cf_ask_rule::View;
 use cf_base::{Hydration, Policy};
+use cf_ranges::RangeSet;
 use cf_table::Row;
 
 /// The greatest file, in bytes.
@@ -41,6 +43,25 @@ fn needs_all(hydration: Hydration, row: &Row) -> bool
     ensures { result ≡ (is_whole hydration || row.now.keep) }
 {
     is_whole(hydration) || row.keep
+}
+
+/// What the ask rule sees of an item that is gone, of whose bytes none are here.
+pub fn no_view<'a>(none: &'a RangeSet) -> View<'a>
+    requires { none.now ≡ [] }
+    ensures size { result.size ≤ 2 ^ 24 }
+    ensures base { result.base ≤ 2 ^ 24 }
+    ensures shows { shown result ≡ no_view }
+{
+    View {
+        here: none,
+        valid: none,
+        modified: none,
+        size: 0,
+        base: 0,
+        validate: false,
+        full: false,
+        populated: false,
+    }
 }
 
 /// What the ask rule sees of an item as this row says it, under a policy.
