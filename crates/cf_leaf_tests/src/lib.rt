@@ -1,10 +1,8 @@
-//! Tests of the leaves: plain types, codecs, sources and sinks, words, ranges, reports, scripts and made scripts.
+//! Tests of the leaves: plain types, codecs, sources and sinks, ranges, reports and made scripts.
 #![tactic(auto)]
 
 #[cfg(test)]
 mod base;
-#[cfg(test)]
-mod cli;
 #[cfg(test)]
 mod codec;
 #[cfg(test)]
@@ -15,5 +13,3 @@ mod made;
 mod ranges;
 #[cfg(test)]
 mod report;
-#[cfg(test)]
-mod script;

@@ -6,6 +6,4 @@ mod clusters;
 #[cfg(test)]
 mod disk;
 #[cfg(test)]
-mod first_format;
-#[cfg(test)]
 mod journal;

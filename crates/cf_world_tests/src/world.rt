@@ -1,10 +1,8 @@
-//! Whole runs: each status, faults of the outside, and power cuts at each call of the device. Reports stand in tests/.
+//! Whole runs: each status, and faults of the outside. Reports, and power cuts at each call of the device, stand in tests/.
 
 mod faults;
-mod lengths;
 mod remotes;
 mod sinks;
-mod stops;
 
 use cf_base::{OutOfMemory, Status};
 use cf_disk::{Disk, MemDisk};
@@ -19,7 +17,7 @@ const DEVICE: u64 = 67_108_864;
 /// A device of 64 clusters.
 const SMALL: u64 = 3_145_728 + 64 * 4096;
 
-/// The most bytes that a run writes here, but for long reports.
+/// The most bytes that a run writes here.
 const ROOM: usize = 20_000;
 
 /// What a run is given. The calls that fail are counted from 1.

@@ -1,6 +1,6 @@
-//! Openings of devices of format 1: what they give, each stop and power cut within one, and images that break one condition.
+//! Openings of devices of format 1: what they give, and each stop and power cut within one.
 
-use crate::volume::openings::{EIGHT, is_new, is_none};
+use crate::volume::openings::{EIGHT, is_new};
 use crate::volume::steps::{open, reopened, tried};
 use cf_base::{CallError as Refusal, Choice};
 use cf_disk::{Disk, MemDisk};
@@ -8,8 +8,6 @@ use std::alloc::Global;
 use std::test::Fail;
 
 const IMAGE: u64 = 4096;
-
-const JOURNAL: u64 = 1_048_576;
 
 const OTHER_SLOT: u64 = 1_572_864;
 
@@ -74,57 +72,10 @@ fn opens(alloc: Global, changed: &[(u64, u8)]) -> Result<bool, Refusal> {
     }
 }
 
-fn is_refused(alloc: Global, changed: &[(u64, u8)]) -> Result<bool, Refusal> {
-    match made(alloc, changed)? {
-        Some(disk) => Ok(is_none(alloc, disk)),
-        None => Ok(false),
-    }
-}
-
 #[test]
 fn a_device_of_format_1_is_opened(rt: HostRuntime) -> Result<(), Fail> {
     assert!(rt; opens(rt.alloc(), &[])?);
     assert!(rt; opens(rt.alloc(), &[UNSEEN])?);
-    Ok(())
-}
-
-// Each breaks one condition: the gate, the letters, the generation, the length and the device's size; the format, the number of
-// rows and the root's flags; the next item and the root's parent; and a record that is no payload.
-const BREAKS: [(u64, u8); 11] = [
-    (0, 0),
-    (7, 51),
-    (15, 0),
-    (19, 98),
-    (26, 129),
-    (IMAGE, 2),
-    (IMAGE + 28, 0),
-    (IMAGE + 46, 133),
-    (IMAGE + 24, 1),
-    (IMAGE + 44, 1),
-    (JOURNAL, 1),
-];
-
-// An image of more bytes than format 1 may have, and a record that does not fit its journal.
-const TOO_LONG: [(u64, u8); 3] = [(17, 15), (18, 240), (19, 1)];
-
-const NO_ROOM: [(u64, u8); 2] = [(JOURNAL, 1), (JOURNAL + 1, 255)];
-
-fn are_refused(alloc: Global) -> Result<bool, Refusal> {
-    for change in BREAKS {
-        if !is_refused(alloc, &[change])? {
-            return Ok(false);
-        }
-    }
-    Ok(true)
-}
-
-#[test]
-fn an_image_of_format_1_that_breaks_one_condition_is_no_volume(
-    rt: HostRuntime,
-) -> Result<(), Fail> {
-    assert!(rt; are_refused(rt.alloc())?);
-    assert!(rt; is_refused(rt.alloc(), &TOO_LONG)?);
-    assert!(rt; is_refused(rt.alloc(), &NO_ROOM)?);
     Ok(())
 }
 

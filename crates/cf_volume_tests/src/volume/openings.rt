@@ -50,7 +50,7 @@ fn each_opening_of_a_new_volume_begins_an_epoch(rt: HostRuntime) -> Result<(), F
     Ok(())
 }
 
-pub(super) fn is_none<D: Disk + Drop>(alloc: Global, disk: D) -> bool {
+fn is_none<D: Disk + Drop>(alloc: Global, disk: D) -> bool {
     match open(alloc, disk) {
         Ok(volume) => {
             drop(volume);
