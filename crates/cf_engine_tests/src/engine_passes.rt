@@ -2,23 +2,20 @@
 
 ghost use Rattle.cf_wire.specs.Spelled.{ReplyHasRoom};
 
+use crate::filter::{SIZE, format};
 use cf_base::{
-    CallError, Code, Hydration, Key, Notes, Policy, Population, Reply, Request, Rid, Sequence,
-    Shown, Token, Version,
+    CallError, Hydration, Key, Notes, Policy, Population, Reply, Request, Rid, Sequence, Shown,
+    Token, Version,
 };
-use cf_disk::{Disk, MemDisk};
+use cf_disk::MemDisk;
 use cf_engine_passes::sync;
 use cf_engine_steps::Engine;
 use cf_filter::Filter;
 use cf_item_rules::Creation;
-use cf_journal::Journal;
 use cf_link::Link;
 use cf_remote::{AskError, Remote};
 use std::alloc::Global;
 use std::test::Fail;
-
-/// Of 16 clusters.
-const SIZE: u64 = 3_145_728 + 16 * 4096;
 
 const POLICY: Policy = Policy {
     hydration: Hydration::Partial,
@@ -98,20 +95,6 @@ impl Remote for Liar {
     }
 }
 
-fn format(alloc: Global, disk: MemDisk) -> Result<Filter<MemDisk>, CallError> {
-    if !Journal::is_fit_size(disk.size()) {
-        drop(disk);
-        return Err(CallError::No(Code::NotAVolume));
-    }
-    match Filter::format(alloc, disk, POLICY) {
-        Ok(filter) => Ok(filter),
-        Err((disk, fail)) => {
-            drop(disk);
-            Err(fail)
-        }
-    }
-}
-
 // A new file, and the engine as its provider.
 fn begins(filter: &mut Filter<MemDisk>, notes: &mut Notes) -> Result<(), CallError> {
     let kind = Creation::File;
@@ -153,7 +136,7 @@ fn left(
 
 fn left_by(alloc: Global, lie: Lie) -> Result<u64, CallError> {
     let disk = MemDisk::new(alloc, SIZE)?;
-    let mut filter = format(alloc, disk)?;
+    let mut filter = format(alloc, disk, POLICY)?;
     let mut engine = Engine::new(alloc, Link::new(alloc, Liar { lie }));
     let mut notes = Sequence::new(alloc);
     let count = left(&mut filter, &mut engine, &mut notes);

@@ -1,5 +1,5 @@
-//! Tests of messages, the remote, the link and the parts of an engine. What comes of a feed's entries, of events of another
-//! device and of messages in turn, scripts show.
+//! Tests of messages, the remote, the link, the parts of an engine, and what an engine does on a filter. What comes of a feed's entries,
+//! of events of another device and of messages in turn, scripts show.
 //!
 //! Nothing stands on tests, so they are a program, which does nothing.
 #![tactic(auto)]
@@ -12,6 +12,8 @@ mod engine_passes;
 mod engine_provider;
 #[cfg(test)]
 mod engine_queue;
+#[cfg(test)]
+mod filter;
 #[cfg(test)]
 mod link;
 #[cfg(test)]

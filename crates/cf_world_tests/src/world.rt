@@ -4,6 +4,7 @@ mod faults;
 mod remotes;
 mod sinks;
 
+use super::SMALL;
 use cf_base::{OutOfMemory, Status};
 use cf_disk::{Disk, MemDisk};
 use cf_io::{MemSink, MemSource};
@@ -13,9 +14,6 @@ use std::alloc::Global;
 
 /// The device of the program: 15,616 clusters.
 const DEVICE: u64 = 67_108_864;
-
-/// A device of 64 clusters.
-const SMALL: u64 = 3_145_728 + 64 * 4096;
 
 /// The most bytes that a run writes here.
 const ROOM: usize = 20_000;

@@ -9,7 +9,7 @@ use std::alloc::Global;
 use std::test::Fail;
 
 /// Of 16 clusters.
-const SIZE: u64 = 3_145_728 + 16 * 4096;
+pub(crate) const SIZE: u64 = 3_145_728 + 16 * 4096;
 
 const PLACEHOLDER: ItemId = ItemId(2);
 
@@ -21,12 +21,17 @@ const PARTIAL: Policy = Policy {
     auto: false,
 };
 
-fn format(alloc: Global, disk: MemDisk) -> Result<Filter<MemDisk>, CallError> {
+/// A new volume under a policy.
+pub(crate) fn format(
+    alloc: Global,
+    disk: MemDisk,
+    policy: Policy,
+) -> Result<Filter<MemDisk>, CallError> {
     if !Journal::is_fit_size(disk.size()) {
         drop(disk);
         return Err(CallError::No(Code::NotAVolume));
     }
-    match Filter::format(alloc, disk, PARTIAL) {
+    match Filter::format(alloc, disk, policy) {
         Ok(filter) => Ok(filter),
         Err((disk, fail)) => {
             drop(disk);
@@ -101,7 +106,7 @@ fn goes_well(alloc: Global, filter: &mut Filter<MemDisk>) -> Result<bool, CallEr
 #[test]
 fn an_engine_takes_its_steps(rt: HostRuntime) -> Result<(), Fail> {
     let disk = MemDisk::new(rt.alloc(), SIZE)?;
-    let mut filter = format(rt.alloc(), disk)?;
+    let mut filter = format(rt.alloc(), disk, PARTIAL)?;
     let well = goes_well(rt.alloc(), &mut filter);
     drop(filter);
     assert!(rt; well?);
