@@ -18,7 +18,7 @@ OWN = 67_108_864
 # How many clusters the devices have that are judged.
 CLUSTERS = 8
 BAD_IMAGE = 10
-OTHER_SLOT, OTHER_IMAGE = 1_572_864, 1_576_960
+IMAGE, OTHER_SLOT, OTHER_IMAGE = 4096, 1_572_864, 1_576_960
 ALL = [(0, 5000)]
 
 # The slot that a migration writes: an open gate, CFVOL02, the next generation, an image of 115 bytes, the size of the device; and the front
@@ -74,6 +74,10 @@ NOT_SPELLED = {
     "the next item is none": (24, 0),
 }
 
+# Lengths after which the image of the file is cut, in each format. The first field that lacks bytes is named.
+CUTS = (0, 1, 5, 17, 25, 33, 37, 45, 56, 110, 130, 186, 236, 300, 304)
+FIRST_CUTS = (0, 25, 29, 95, 272)
+
 # Records that are no payload: the key of a record, in a payload that changes nothing else, does not come after the one before.
 FALLING = [(b"q", b""), (b"c", b"")]
 
@@ -85,11 +89,12 @@ def devices():
     file = scrub.image(2, rows_of_a_file(2), 4)
     first = scrub.image(1, rows_of_a_file(1), 4)
     root = scrub.row(2, 1, 0, 5)
-    said = {"a new volume": new(2), "a new volume of format 1": new(1), "a file": scrub.device(2, file)[0], "a file in format 1": scrub.device(1, first)[0]}
+    said = {"a new volume": new(2), "a new volume of format 1": new(1)}
+    said |= {"a file": scrub.device(2, file)[0], "a file in format 1": scrub.device(1, first)[0]}
     said |= {name: scrub.device(2, changed(file, *change))[0] for name, change in UNSOUND.items()}
     said |= {name + ", in format 1": scrub.device(1, changed(first, *change))[0] for name, change in NOT_SPELLED.items()}
-    said |= {f"an image cut after {cut} bytes": scrub.device(2, file[:cut])[0] for cut in (0, 1, 5, 17, 25, 33, 37, 45, 56, 110, 130, 186, 236, 300, 304)}
-    said |= {f"an image in format 1 cut after {cut} bytes": scrub.device(1, first[:cut])[0] for cut in (0, 25, 29, 95, 272)}
+    said |= {f"an image cut after {cut} bytes": scrub.device(2, file[:cut])[0] for cut in CUTS}
+    said |= {f"an image in format 1 cut after {cut} bytes": scrub.device(1, first[:cut])[0] for cut in FIRST_CUTS}
     said |= {
         "two names": new(2, [root, scrub.row(2, 2, 1, 5, b"d"), scrub.row(2, 3, 1, 5, b"e")], 4),
         "one name twice": new(2, [root, scrub.row(2, 2, 1, 5, b"d"), scrub.row(2, 3, 1, 5, b"d")], 4),
@@ -99,6 +104,7 @@ def devices():
         "a file kept full in format 1": new(1, [scrub.row(1, 1, 0, 5), scrub.row(1, 2, 1, 132, b"f")], 3),
         "more behind the rows": scrub.device(2, scrub.image(2, [root], 2) + b" ")[0],
         "a payload": new(2, payloads=[scrub.payload(2, [], [], [], [])]),
+        "a payload in format 1": new(1, payloads=[scrub.payload(1, [], [], [], [])]),
         "a payload at fault": new(2, payloads=[scrub.payload(2, [], [], [], []), scrub.payload(2, [], [], [], FALLING)]),
         "a closed gate": slot(0, b"\0"),
         "letters of no format": slot(7, b"3"),
@@ -156,6 +162,18 @@ def wrong_judgements(program, file, wanted):
             yield f"{name}: {said}"
 
 
+def wrong_cuts(program, file):
+    """The fronts of new volumes' images in which no field that lacks bytes is named."""
+    for form in (1, 2):
+        whole = scrub.image(form, [scrub.row(form, 1, 0, 5)], 2)
+        for cut in range(len(whole)):
+            data = scrub.device(form, whole[:cut])[0]
+            put(file, data, len(data))
+            said = judged(program, file).split(" ")
+            if said[:2] != ["damage", "image"] or not IMAGE <= int(said[2]) <= IMAGE + cut:
+                yield f"the first {cut} bytes of a new volume in format {form}"
+
+
 def wrong_migrations(program, file, wanted):
     for name, data in devices().items():
         clean = wanted.get(name, "").startswith("clean")
@@ -183,7 +201,7 @@ def main(program):
         wanted = dict(line.rstrip("\n").split(": ") for line in lines)
     with tempfile.TemporaryDirectory() as folder:
         file = os.path.join(folder, "device")
-        wrong = [*wrong_judgements(program, file, wanted), *wrong_migrations(program, file, wanted)]
+        wrong = [*wrong_judgements(program, file, wanted), *wrong_cuts(program, file), *wrong_migrations(program, file, wanted)]
     for line in wrong:
         print(line)
     return 1 if wrong else 0
